@@ -1,0 +1,25 @@
+-- The fields of a table, as the bytes have them: document 01, "Bytes of a table".
+-- Assumes nothing.
+use Prim.Native.Nat.{ℕ}
+use mathlib.Core.List.{List}
+
+-- Of each record the six condition bytes: on timers 0, 1, 2, then the further ones on timers 0, 1, 2.
+-- 0 stands for none: no condition byte is 0, since the codes begin at 1. "An absent rate or price is 0."
+pub record ModeFields : Type 0 where
+  pub rate : ℕ
+  pub conditions : List ℕ
+
+-- `resets` is the byte whose bits name timers, 0 where it is absent.
+pub record MoveFields : Type 0 where
+  pub source : ℕ
+  pub target : ℕ
+  pub price : ℕ
+  pub conditions : List ℕ
+  pub resets : ℕ
+
+-- The counts m, n, e of modes, timers and moves are the lengths of the lists.
+pub record Fields : Type 0 where
+  pub goal : ℕ
+  pub ceilings : List ℕ
+  pub modes : List ModeFields
+  pub moves : List MoveFields

@@ -1,0 +1,30 @@
+-- The automaton that a table stands for (a priced timed automaton: source document 001, section 2), free of bytes and widths.
+-- Assumes nothing.
+use Prim.Native.Nat.{ℕ}
+use mathlib.Core.List.{List}
+use lib.ListN.{length}
+use Rattle.semantics.specs.Condition.{Condition}
+
+-- A mode (a location): what a minute in it is charged, and its conditions (its invariant).
+pub record Mode : Type 0 where
+  pub rate : ℕ
+  pub conditions : List Condition
+
+-- A move (an edge): its from mode, its to mode, its price, its conditions (its guard) and the timers that it resets.
+pub record Move : Type 0 where
+  pub source : ℕ
+  pub target : ℕ
+  pub price : ℕ
+  pub conditions : List Condition
+  pub resets : List ℕ
+
+-- Modes and moves go by their places in the lists, timers by the places of their ceilings. The start is mode 0.
+pub record Automaton : Type 0 where
+  pub ceilings : List ℕ
+  pub modes : List Mode
+  pub moves : List Move
+  pub goal : ℕ
+
+-- The number of timers: each has a ceiling.
+abbrev pub timers : Automaton → ℕ
+timers a = length (a .ceilings)

@@ -1,6 +1,9 @@
--- The bytes of a table and the fields that they stand for.
--- The pages to believe:
+-- The bytes of a table and what they stand for.
 pub mod Parser
 pub mod Fields
-pub mod Read
+pub mod Format
 pub mod Meaning
+pub mod Read
+pub mod Held
+pub mod Step
+pub mod Theorems

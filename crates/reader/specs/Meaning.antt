@@ -8,7 +8,7 @@ use lib.ListN.{getD}
 use Rattle.semantics.specs.Condition.{Comparison, less, atMost, equal, atLeast, greater, Condition}
 use Rattle.semantics.specs.Automaton.{Mode, Move, Automaton}
 use Rattle.reader.specs.Fields.{ModeFields, MoveFields, Fields}
-use Rattle.reader.specs.Read.{stands}
+use Rattle.reader.specs.Format.{stands}
 
 -- "codes 1 to 5 are <, ≤, =, ≥, >".
 abbrev pub comparisonOf : ℕ → Comparison

@@ -9,7 +9,7 @@ infixl 10 _>>=_
 pub data Parser (A : Type 0) : Type 0 where
   done : A → Parser A
   refuse : ℕ → Parser A
-  next : (ℕ → Parser A) → Parser A
+  byte : (ℕ → Parser A) → Parser A
 
 -- What comes of it: a refusal's number, or the value and the bytes that are left.
 pub data Outcome (A : Type 0) : Type 0 where
@@ -20,14 +20,14 @@ pub data Outcome (A : Type 0) : Type 0 where
 abbrev pub run : {A : Type 0} → Parser A → List ℕ → Outcome A
 run (done a) bytes = took a bytes
 run (refuse n) bytes = refused n
-run (next k) [] = refused 1
-run (next k) (b ∷ bytes) = run (k b) bytes
+run (byte k) [] = refused 1
+run (byte k) (b ∷ bytes) = run (k b) bytes
 
 -- One parser after another, for `do`.
 abbrev pub _>>=_ : {A B : Type 0} → Parser A → (A → Parser B) → Parser B
 _>>=_ (done a) f = f a
 _>>=_ (refuse n) f = refuse n
-_>>=_ (next k) f = next (λ b. k b >>= f)
+_>>=_ (byte k) f = byte (λ b. k b >>= f)
 
 -- The parsers p i, p (i + 1), .., so many of them, one after another.
 unfoldable pub inOrder : {A : Type 0} → (ℕ → Parser A) → ℕ → ℕ → Parser (List A)

@@ -2,7 +2,8 @@
 -- Assumes nothing.
 use Prim.Native.Nat.{ℕ, _*_, _≤_, _<_}
 use mathlib.Core.Path.{_≡_}
-use mathlib.Core.Bool.{Bool}
+use mathlib.Core.Bool.{Bool, true, _&&_}
+use mathlib.Core.List.{List, [], _∷_}
 use lib.Dec.{ltb, leb, eqb}
 
 -- The five comparisons, in the order of their codes.
@@ -38,3 +39,8 @@ Holds q c v = Compares (c .comparison) v (q * c .value)
 -- The test of it.
 abbrev pub holds : ℕ → Condition → ℕ → Bool
 holds q c v = compares (c .comparison) v (q * c .value)
+
+-- "All conditions hold together": here with every timer at 0.
+abbrev pub holdAtZero : List Condition → Bool
+holdAtZero [] = true
+holdAtZero (c ∷ cs) = holds 1 c 0 && holdAtZero cs

@@ -1,0 +1,117 @@
+-- A loop that runs the parsers p first, p (first + 1), .., count of them, and collects what they take.
+-- Assumes nothing.
+use Prim.Native.Nat.{ℕ, zero, suc, _+_, _-_, _≤_, _<_}
+use native.Mathlib.Nat.{add-zero, sub-zero}
+use native.Mathlib.Omega.{arith}
+use mathlib.Core.Path.{_≡_, refl, sym, ap, ap₂, _∙_}
+use mathlib.Core.List.{List, [], _∷_, _++_, append-assoc, append-nil}
+use lib.ListN.{length, length-append, drop, set}
+use Rattle.reader.specs.Held.{pad}
+use Rattle.reader.proofs.Padding.{pad-more}
+use Rattle.reader.specs.Parser.{Parser, done, _>>=_, inOrder, Outcome, refused, took, run}
+use Rattle.reader.specs.Step.{Gives, refuses, gives}
+use Rattle.reader.specs.Theorems.Running.{run-bind, andThen, after}
+
+after-nil : {A : Type 0} (o : Outcome (List A)) → after [] o ≡ o
+after-nil (refused n) = refl
+after-nil (took l s) = refl
+
+after-after : {A : Type 0} (l m : List A) (o : Outcome (List A)) → after l (after m o) ≡ after (l ++ m) o
+after-after l m (refused n) = refl
+after-after l m (took k s) = ap (λ (j : List _). took j s) (sym (append-assoc l m k))
+
+after-one : {A : Type 0} (a : A) (o : Outcome (List A)) → andThen o (λ l. done (a ∷ l)) ≡ after (a ∷ []) o
+after-one a (refused n) = refl
+after-one a (took l s) = refl
+
+module _ {A : Type 0} (p : ℕ → Parser A) where
+  order-took : (i n : ℕ) (s s′ : List ℕ) (a : A) → run (p i) s ≡ took a s′ → run (inOrder p i (suc n)) s ≡ after (a ∷ []) (run (inOrder p (suc i) n) s′)
+  unfolding inOrder
+  order-took i n s s′ a e =
+      run-bind (p i) _ s ∙ ap (λ (o : Outcome A). andThen o (λ a. inOrder p (suc i) n >>= λ l. done (a ∷ l))) e
+      ∙ run-bind (inOrder p (suc i) n) _ s′ ∙ after-one a (run (inOrder p (suc i) n) s′)
+
+  order-refused : (i n m : ℕ) (s : List ℕ) → run (p i) s ≡ refused m → run (inOrder p i (suc n)) s ≡ refused m
+  unfolding inOrder
+  order-refused i n m s e = run-bind (p i) _ s ∙ ap (λ (o : Outcome A). andThen o (λ a. inOrder p (suc i) n >>= λ l. done (a ∷ l))) e
+
+  order-none : (i : ℕ) (s : List ℕ) → run (inOrder p i 0) s ≡ took [] s
+  unfolding inOrder
+  order-none i s = refl
+
+  module _ (first count : ℕ) (bytes : List ℕ) (start : ℕ) where
+    -- These were taken from the start to the place `next`: what comes of the others there is what comes of all.
+    pub record Collected (taken : List A) (next : ℕ) : Type 0 where
+      pub same : run (inOrder p first count) (drop start bytes)
+          ≡ after taken (run (inOrder p (first + length taken) (count - length taken)) (drop next bytes))
+
+    pub collected-none : Collected [] start
+    collected-none = record { same = rw (add-zero first, sub-zero count) (sym (after-nil (run (inOrder p first count) (drop start bytes)))) }
+
+    step-count : (taken : List A) → length taken < count → (i m : ℕ) → i ≡ first + length taken → m ≡ count - suc (length taken) → (next : ℕ) → Collected taken next →
+        run (inOrder p first count) (drop start bytes) ≡ after taken (run (inOrder p i (suc m)) (drop next bytes))
+    step-count taken h i m e f next c =
+        let g : suc m ≡ count - length taken = omega arith in
+        rw (e, g) (c .same)
+
+    pub collected-more : {taken : List A} {next next′ r : ℕ} {v : A} → Collected taken next → length taken < count → r ≡ 0 →
+        Gives bytes r next′ (λ a. v ≡ a) (run (p (first + length taken)) (drop next bytes)) → Collected (taken ++ v ∷ []) next′
+    collected-more {taken} {next} {next′} {r} {v} c h z (refuses n e) = absurd (omega arith)
+    collected-more {taken} {next} {next′} {r} {v} c h z (gives a y e f) =
+        let further : suc (first + length taken) ≡ first + length (taken ++ v ∷ []) = omega (arith, length-append taken (v ∷ [])) in
+        let fewer : count - suc (length taken) ≡ count - length (taken ++ v ∷ []) = omega (arith, length-append taken (v ∷ [])) in
+        record {
+      same =
+          step-count taken h (first + length taken) (count - suc (length taken)) refl refl next c
+          ∙ ap (after taken) (order-took (first + length taken) (count - suc (length taken)) (drop next bytes) (drop next′ bytes) v (rw f e))
+          ∙ after-after taken (v ∷ []) (run (inOrder p (suc (first + length taken)) (count - suc (length taken))) (drop next′ bytes))
+          ∙ ap₂ (λ (i m : ℕ). after (taken ++ v ∷ []) (run (inOrder p i m) (drop next′ bytes))) further fewer;
+    }
+
+    pub collected-refused : {taken : List A} {next next′ next″ r : ℕ} {P : A → Type 0} {Q : List A → Type 0} → Collected taken next → length taken < count →
+        (r ≡ 0 → ⊥) → Gives bytes r next′ P (run (p (first + length taken)) (drop next bytes)) → Gives bytes r next″ Q (run (inOrder p first count) (drop start bytes))
+    collected-refused {taken = taken} {next = next} {r = r} c h z (refuses n e) =
+        refuses n
+        (step-count taken h (first + length taken) (count - suc (length taken)) refl refl next c
+        ∙ ap (after taken) (order-refused (first + length taken) (count - suc (length taken)) r (drop next bytes) e))
+    collected-refused c h z (gives a y e f) = absurd (z y)
+
+    pub collected-all : {taken : List A} {next : ℕ} → Collected taken next → length taken ≡ count → run (inOrder p first count) (drop start bytes) ≡ took taken (drop next bytes)
+    collected-all {taken} {next} c h =
+        let none : count - length taken ≡ 0 = omega arith in
+        c .same ∙ ap (λ (m : ℕ). after taken (run (inOrder p (first + length taken) m) (drop next bytes))) none
+        ∙ ap (after taken) (order-none (first + length taken) (drop next bytes)) ∙ ap (λ (l : List A). took l (drop next bytes)) (append-nil taken)
+
+-- The same where the values are numbers that go into an array of the size given.
+module _ (p : ℕ → Parser ℕ) (first count size : ℕ) (bytes : List ℕ) (start : ℕ) where
+  pub record Filled (array : List ℕ) (next i : ℕ) : Type 0 where
+    pub taken : List ℕ
+    pub many : length taken ≡ i
+    pub few : i ≤ count
+    pub collected : Collected p first count bytes start taken next
+    pub held : array ≡ pad size taken
+
+  pub filled-none : Filled (pad size []) start 0
+  filled-none = record { taken = []; many = refl; few = omega arith; collected = collected-none p first count bytes start; held = refl }
+
+  pub filled-more : {array : List ℕ} {next next′ i r v : ℕ} → Filled array next i → i < count → count ≤ size → r ≡ 0 →
+      Gives bytes r next′ (λ a. v ≡ a) (run (p (first + i)) (drop next bytes)) → Filled (set array i v) next′ (i + 1)
+  filled-more {array} {next} {next′} {i} {r} {v} f h k z g =
+      let same : first + i ≡ first + length (f .taken) = ap (λ (j : ℕ). first + j) (sym (f .many)) in
+      record {
+        taken = f .taken ++ v ∷ [];
+        many = omega (arith, length-append (f .taken) (v ∷ []), f .many);
+        few = omega arith;
+        collected = collected-more p first count bytes start (f .collected) (omega (arith, f .many)) z (rw same at g);
+        held =
+            ap₂ (λ (l : List ℕ) (j : ℕ). set l j v) (f .held) (sym (f .many)) ∙ pad-more size (f .taken) v (omega (arith, f .many));
+      }
+
+  pub filled-refused : {array : List ℕ} {next next′ next″ i r : ℕ} {P : ℕ → Type 0} {Q : List ℕ → Type 0} → Filled array next i → i < count → (r ≡ 0 → ⊥) →
+      Gives bytes r next′ P (run (p (first + i)) (drop next bytes)) → Gives bytes r next″ Q (run (inOrder p first count) (drop start bytes))
+  filled-refused {i = i} f h z g =
+      let same : first + i ≡ first + length (f .taken) = ap (λ (j : ℕ). first + j) (sym (f .many)) in
+      collected-refused p first count bytes start (f .collected) (omega (arith, f .many)) z (rw same at g)
+
+  pub filled-all : {array : List ℕ} {next i : ℕ} (f : Filled array next i) → count ≤ i → run (inOrder p first count) (drop start bytes) ≡ took (f .taken) (drop next bytes)
+  filled-all f h = collected-all p first count bytes start (f .collected) (omega (arith, f .many, f .few))

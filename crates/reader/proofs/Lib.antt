@@ -1,0 +1,3 @@
+pub mod Giving
+pub mod Collecting
+pub mod Padding

@@ -1,0 +1,46 @@
+-- The contract of each private function that reads from a place on: what it gives is what comes of a parser there.
+-- Assumes nothing.
+use Prim.Native.Nat.{ℕ, _≤_, _<_}
+use mathlib.Core.Path.{_≡_}
+use mathlib.Core.Bool.{Bool, true}
+use mathlib.Core.List.{List, map}
+use lib.ListN.{drop}
+use Rattle.reader.specs.Parser.{Parser, Outcome, refused, took, run}
+use Rattle.reader.specs.Fields.{ModeFields, MoveFields}
+use Rattle.reader.specs.Format.{within}
+use Rattle.reader.specs.Held.{pad, flat}
+use Rattle.reader.specs.declared.Field.{Field}
+use Rattle.reader.specs.declared.ConditionsRead.{ConditionsRead}
+use Rattle.reader.specs.declared.ModeRecord.{ModeRecord}
+use Rattle.reader.specs.declared.MoveRecord.{MoveRecord}
+use Rattle.reader.specs.declared.Modes.{Modes}
+use Rattle.reader.specs.declared.Moves.{Moves}
+
+-- A refusal by its number; or no refusal, 0, the place after what was taken, and a value of which P holds.
+pub data Gives {A : Type 0} (bytes : List ℕ) (refusal next : ℕ) (P : A → Type 0) (o : Outcome A) : Type 0 where
+  refuses : 0 < refusal → o ≡ refused refusal → Gives bytes refusal next P o
+  gives : (a : A) → refusal ≡ 0 → o ≡ took a (drop next bytes) → P a → Gives bytes refusal next P o
+
+-- The field is what the parser gives from the place `from` on.
+abbrev pub GivesField : Parser ℕ → List ℕ → ℕ → Field → Type 0
+GivesField p bytes from r = Gives bytes (r .refusal) (r .next) (λ a. r .value ≡ a) (run p (drop from bytes))
+
+-- Besides, where it is not refused, the byte is in its range.
+pub record GivesWithin (number low high : ℕ) (bytes : List ℕ) (from : ℕ) (r : Field) : Type 0 where
+  pub gives : GivesField (within number low high) bytes from r
+  pub range : r .refusal ≡ 0 → (low ≤ r .value) × (r .value ≤ high)
+
+abbrev pub GivesConditions : Parser (List ℕ) → List ℕ → ℕ → ConditionsRead → Type 0
+GivesConditions p bytes from r = Gives bytes (r .refusal) (r .next) (λ a. r .bytes ≡ a) (run p (drop from bytes))
+
+abbrev pub modeFields : ModeRecord → ModeFields
+modeFields r = record { rate = r .rate; conditions = r .conditions }
+
+abbrev pub GivesMode : Parser ModeFields → List ℕ → ℕ → ModeRecord → Type 0
+GivesMode p bytes from r = Gives bytes (r .refusal) (r .next) (λ a. modeFields r ≡ a) (run p (drop from bytes))
+
+abbrev pub moveFields : MoveRecord → MoveFields
+moveFields r = record { source = r .source; target = r .target; price = r .price; conditions = r .conditions; resets = r .resets }
+
+abbrev pub GivesMove : Parser MoveFields → List ℕ → ℕ → MoveRecord → Type 0
+GivesMove p bytes from r = Gives bytes (r .refusal) (r .next) (λ a. moveFields r ≡ a) (run p (drop from bytes))

@@ -37,6 +37,12 @@ module _ {bytes : List ℕ} where
       Gives bytes r n (λ a. v ≡ a) (run p s) → Gives bytes r′ n′ Q (run (f v) (drop n bytes)) → Gives bytes r′ n′ Q (run (p >>= f) s)
   part-known p f s h g k = part-taken p f s h g (λ a e. rw (sym e) k)
 
+  -- The last part, whose value makes the whole's.
+  pub part-last : {A B : Type 0} {r n : ℕ} {v : A} (p : Parser A) (f : A → B) (s : List ℕ) →
+      Gives bytes r n (λ a. v ≡ a) (run p s) → Gives bytes r n (λ b. f v ≡ b) (run (p >>= λ a. done (f a)) s)
+  part-last p f s (refuses z q) = refuses z (run-bind p _ s ∙ ap (λ (o : Outcome _). andThen o (λ a. done (f a))) q)
+  part-last p f s (gives a z q e) = gives (f a) z (run-bind p _ s ∙ ap (λ (o : Outcome _). andThen o (λ a. done (f a))) q) (ap f e)
+
 -- A byte that is wanted within a range is missing, too low, too high or right.
 module _ (bytes : List ℕ) (from number low high : ℕ) where
   pub within-none : length bytes ≤ from → run (within number low high) (drop from bytes) ≡ refused 1

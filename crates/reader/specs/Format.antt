@@ -62,14 +62,27 @@ moveRecord m n = do
   resets ← ifStands (stands map 7) (within 3 0 (2 ^ n - 1))
   done (record { source = source; target = target; price = price; conditions = cs; resets = resets })
 
+-- The first four bytes: the numbers of modes, timers and moves, and the goal.
+pub record Header : Type 0 where
+  pub modes : ℕ
+  pub timers : ℕ
+  pub moves : ℕ
+  pub goal : ℕ
+
 -- Refusal 2: "a count, goal or ceiling outside its range".
-unfoldable pub table : Parser Fields
-table = do
+unfoldable pub header : Parser Header
+header = do
   m ← within 2 1 16
   n ← within 2 1 3
   e ← within 2 0 64
   goal ← within 2 0 (m - 1)
-  ceilings ← inOrder (λ i. within 2 1 15) 0 n
-  modes ← inOrder (λ i. modeRecord n) 0 m
-  moves ← inOrder (λ i. moveRecord m n) 0 e
-  done (record { goal = goal; ceilings = ceilings; modes = modes; moves = moves })
+  done (record { modes = m; timers = n; moves = e; goal = goal })
+
+-- "Then n ceilings, 1 to 15. Then m mode records, then e move records."
+unfoldable pub table : Parser Fields
+table = do
+  h ← header
+  ceilings ← inOrder (λ i. within 2 1 15) 0 (h .timers)
+  modes ← inOrder (λ i. modeRecord (h .timers)) 0 (h .modes)
+  moves ← inOrder (λ i. moveRecord (h .modes) (h .timers)) 0 (h .moves)
+  done (record { goal = h .goal; ceilings = ceilings; modes = modes; moves = moves })

@@ -5,9 +5,7 @@ use native.Mathlib.Nat.{add-zero, sub-zero}
 use native.Mathlib.Omega.{arith}
 use mathlib.Core.Path.{_≡_, refl, sym, ap, ap₂, _∙_}
 use mathlib.Core.List.{List, [], _∷_, _++_, append-assoc, append-nil}
-use lib.ListN.{length, length-append, drop, set}
-use Rattle.reader.specs.Held.{pad}
-use Rattle.reader.proofs.Padding.{pad-more}
+use lib.ListN.{length, length-append, drop}
 use Rattle.reader.specs.Parser.{Parser, done, _>>=_, inOrder, Outcome, refused, took, run}
 use Rattle.reader.specs.Step.{Gives, refuses, gives}
 use Rattle.reader.specs.Theorems.Running.{run-bind, andThen, after}
@@ -82,36 +80,35 @@ module _ {A : Type 0} (p : ℕ → Parser A) where
         c .same ∙ ap (λ (m : ℕ). after taken (run (inOrder p (first + length taken) m) (drop next bytes))) none
         ∙ ap (after taken) (order-none (first + length taken) (drop next bytes)) ∙ ap (λ (l : List A). took l (drop next bytes)) (append-nil taken)
 
--- The same where the values are numbers that go into an array of the size given.
-module _ (p : ℕ → Parser ℕ) (first count size : ℕ) (bytes : List ℕ) (start : ℕ) where
-  pub record Filled (array : List ℕ) (next i : ℕ) : Type 0 where
-    pub taken : List ℕ
-    pub many : length taken ≡ i
-    pub few : i ≤ count
-    pub collected : Collected p first count bytes start taken next
-    pub held : array ≡ pad size taken
+    -- The state of the loop after i turns, with what else holds of the values.
+    pub record Gathered (H : List A → Type 0) (next i : ℕ) : Type 0 where
+      pub taken : List A
+      pub many : length taken ≡ i
+      pub few : i ≤ count
+      pub collected : Collected taken next
+      pub hold : H taken
 
-  pub filled-none : Filled (pad size []) start 0
-  filled-none = record { taken = []; many = refl; few = omega arith; collected = collected-none p first count bytes start; held = refl }
+    pub gathered-none : {H : List A → Type 0} → H [] → Gathered H start 0
+    gathered-none h = record { taken = []; many = refl; few = omega arith; collected = collected-none; hold = h }
 
-  pub filled-more : {array : List ℕ} {next next′ i r v : ℕ} → Filled array next i → i < count → count ≤ size → r ≡ 0 →
-      Gives bytes r next′ (λ a. v ≡ a) (run (p (first + i)) (drop next bytes)) → Filled (set array i v) next′ (i + 1)
-  filled-more {array} {next} {next′} {i} {r} {v} f h k z g =
-      let same : first + i ≡ first + length (f .taken) = ap (λ (j : ℕ). first + j) (sym (f .many)) in
-      record {
-        taken = f .taken ++ v ∷ [];
-        many = omega (arith, length-append (f .taken) (v ∷ []), f .many);
-        few = omega arith;
-        collected = collected-more p first count bytes start (f .collected) (omega (arith, f .many)) z (rw same at g);
-        held =
-            ap₂ (λ (l : List ℕ) (j : ℕ). set l j v) (f .held) (sym (f .many)) ∙ pad-more size (f .taken) v (omega (arith, f .many));
-      }
+    pub gathered-more : {H H′ : List A → Type 0} {next next′ i r : ℕ} {v : A} → Gathered H next i → i < count → r ≡ 0 →
+        Gives bytes r next′ (λ a. v ≡ a) (run (p (first + i)) (drop next bytes)) →
+        ((l : List A) → length l ≡ i → H l → H′ (l ++ v ∷ [])) → Gathered H′ next′ (i + 1)
+    gathered-more {i = i} {v = v} g h z f k =
+        let same : first + i ≡ first + length (g .taken) = ap (λ (j : ℕ). first + j) (sym (g .many)) in
+        record {
+          taken = g .taken ++ v ∷ [];
+          many = omega (arith, length-append (g .taken) (v ∷ []), g .many);
+          few = omega arith;
+          collected = collected-more (g .collected) (omega (arith, g .many)) z (rw same at f);
+          hold = k (g .taken) (g .many) (g .hold);
+        }
 
-  pub filled-refused : {array : List ℕ} {next next′ next″ i r : ℕ} {P : ℕ → Type 0} {Q : List ℕ → Type 0} → Filled array next i → i < count → (r ≡ 0 → ⊥) →
-      Gives bytes r next′ P (run (p (first + i)) (drop next bytes)) → Gives bytes r next″ Q (run (inOrder p first count) (drop start bytes))
-  filled-refused {i = i} f h z g =
-      let same : first + i ≡ first + length (f .taken) = ap (λ (j : ℕ). first + j) (sym (f .many)) in
-      collected-refused p first count bytes start (f .collected) (omega (arith, f .many)) z (rw same at g)
+    pub gathered-refused : {H : List A → Type 0} {next next′ next″ i r : ℕ} {P : A → Type 0} {Q : List A → Type 0} → Gathered H next i → i < count → (r ≡ 0 → ⊥) →
+        Gives bytes r next′ P (run (p (first + i)) (drop next bytes)) → Gives bytes r next″ Q (run (inOrder p first count) (drop start bytes))
+    gathered-refused {i = i} g h z f =
+        let same : first + i ≡ first + length (g .taken) = ap (λ (j : ℕ). first + j) (sym (g .many)) in
+        collected-refused (g .collected) (omega (arith, g .many)) z (rw same at f)
 
-  pub filled-all : {array : List ℕ} {next i : ℕ} (f : Filled array next i) → count ≤ i → run (inOrder p first count) (drop start bytes) ≡ took (f .taken) (drop next bytes)
-  filled-all f h = collected-all p first count bytes start (f .collected) (omega (arith, f .many, f .few))
+    pub gathered-all : {H : List A → Type 0} {next i : ℕ} (g : Gathered H next i) → count ≤ i → run (inOrder p first count) (drop start bytes) ≡ took (g .taken) (drop next bytes)
+    gathered-all g h = collected-all (g .collected) (omega (arith, g .many, g .few))

@@ -1,3 +1,5 @@
 pub mod Giving
 pub mod Collecting
 pub mod Padding
+pub mod Records
+pub mod Zero

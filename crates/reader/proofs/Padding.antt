@@ -4,7 +4,7 @@ use Prim.Native.Nat.{ℕ, suc, _+_, _-_, _≤_, _<_}
 use native.Mathlib.Omega.{arith}
 use mathlib.Core.Path.{_≡_, refl, sym, ap, ap₂, _∙_}
 use mathlib.Core.List.{List, [], _∷_, _++_, append-assoc, append-nil}
-use lib.ListN.{length, length-append, replicate, set}
+use lib.ListN.{length, length-append, length-replicate, replicate, set}
 use lib.Seq.{set-append-seam, sets}
 use Rattle.reader.specs.Held.{pad}
 
@@ -18,6 +18,9 @@ pad-more n l x h =
     ∙ sym (append-assoc l (x ∷ []) (replicate (n - suc (length l)) 0))
     ∙ ap (λ (k : ℕ). (l ++ x ∷ []) ++ replicate k 0) (sym f)
 
+pub pad-store : (n : ℕ) {array : List ℕ} {i : ℕ} (v : ℕ) → i < n → (l : List ℕ) → length l ≡ i → array ≡ pad n l → set array i v ≡ pad n (l ++ v ∷ [])
+pad-store n v h l k e = rw (e, ← k) (pad-more n l v (omega arith))
+
 -- Several more entries.
 pub pad-several : (n : ℕ) (l xs : List ℕ) → length l + length xs ≤ n → sets (pad n l) (length l) xs ≡ pad n (l ++ xs)
 pad-several n l [] h = ap (pad n) (sym (append-nil l))
@@ -30,3 +33,6 @@ pad-several n l (x ∷ xs) h =
 -- No entry is left behind the list.
 pub pad-full : (n : ℕ) (l : List ℕ) → length l ≡ n → pad n l ≡ l
 pad-full n l h = let e : n - length l ≡ 0 = omega arith in ap (λ (k : ℕ). l ++ replicate k 0) e ∙ append-nil l
+
+pub length-pad : (n : ℕ) (l : List ℕ) → length l ≤ n → length (pad n l) ≡ n
+length-pad n l h = omega (arith, length-append l (replicate (n - length l) 0), length-replicate {A = ℕ} (n - length l) 0)

@@ -11,8 +11,11 @@ use Rattle.reader.specs.Fields.{ModeFields, MoveFields, Fields}
 use Rattle.reader.specs.Format.{stands}
 
 -- "codes 1 to 5 are <, ≤, =, ≥, >".
+abbrev pub comparisons : List Comparison
+comparisons = less ∷ atMost ∷ equal ∷ atLeast ∷ greater ∷ []
+
 abbrev pub comparisonOf : ℕ → Comparison
-comparisonOf code = getD (less ∷ atMost ∷ equal ∷ atLeast ∷ greater ∷ []) (code - 1) greater
+comparisonOf code = getD comparisons (code - 1) greater
 
 -- "A condition byte is 16 × code + value".
 abbrev pub conditionOf : ℕ → ℕ → Condition

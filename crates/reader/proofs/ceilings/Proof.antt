@@ -5,8 +5,10 @@ use native.Mathlib.Omega.{arith}
 use borrow.Author.Needs.{needs}
 use Rattle.reader.specs.Parser.{Parser}
 use Rattle.reader.specs.Format.{within}
+use Rattle.reader.specs.Held.{pad}
 use Rattle.reader.specs.Step.{gives}
-use Rattle.reader.proofs.Collecting.{Filled, filled-none, filled-more, filled-refused, filled-all}
+use Rattle.reader.proofs.Padding.{pad-store}
+use Rattle.reader.proofs.Collecting.{Gathered, gathered-none, gathered-more, gathered-refused, gathered-all}
 use Rattle.reader.proofs.ceilings.Statement.{statement}
 use Rattle.reader.proofs.ceilings.Tie as tie
 
@@ -14,13 +16,13 @@ abbrev ceiling : ℕ → Parser ℕ
 ceiling i = within 2 1 15
 
 abbrev Inv-loop : tie.InvT-loop
-Inv-loop bytes from timers read₀ next₀ i₀ i-end read next i = Filled ceiling 0 timers 3 bytes from read next i
+Inv-loop bytes from timers read₀ next₀ i₀ i-end read next i = Gathered ceiling 0 timers bytes from (λ l. read ≡ pad 3 l) next i
 
 abbrev μ-loop : tie.MeasureT-loop
 μ-loop bytes from timers read₀ next₀ i₀ i-end read next i = timers - i
 
 loop-holds : tie.Need-loop-holds Inv-loop μ-loop
-loop-holds c = let a = c .before .args in filled-none ceiling 0 (a .timers) 3 (a .bytes .now) (a .from)
+loop-holds c = let a = c .before .args in gathered-none ceiling 0 (a .timers) (a .bytes .now) (a .from) refl
 
 byte-within-requires : tie.Need-byte-within-requires Inv-loop μ-loop
 byte-within-requires c κs = search needs
@@ -29,7 +31,7 @@ returns : tie.Need-returns Inv-loop μ-loop
 returns c =
     let at-loop = c .before .before .before .before in
     let a = at-loop .before .before .args in
-    filled-refused ceiling 0 (a .timers) 3 (a .bytes .now) (a .from) (at-loop .loop .inv) (omega arith) (c .if1 .taken) (c .before .before .byte-within .ensures .gives)
+    gathered-refused ceiling 0 (a .timers) (a .bytes .now) (a .from) (at-loop .loop .inv) (omega arith) (c .if1 .taken) (c .before .before .byte-within .ensures .gives)
 
 array-write-read : tie.Need-array-write-read Inv-loop μ-loop
 array-write-read c = omega arith
@@ -44,15 +46,15 @@ loop-again : tie.Need-loop-again Inv-loop μ-loop
 loop-again c =
     let at-loop = c .before .before .before .before in
     let a = at-loop .before .before .args in
-    filled-more ceiling 0 (a .timers) 3 (a .bytes .now) (a .from) (at-loop .loop .inv) (omega arith) (at-loop .before .before .pre) (c .if1 .left)
-    (c .before .before .byte-within .ensures .gives)
+    gathered-more ceiling 0 (a .timers) (a .bytes .now) (a .from) (at-loop .loop .inv) (omega arith) (c .if1 .left)
+    (c .before .before .byte-within .ensures .gives) (pad-store 3 (c .before .before .byte-within .result .value) (omega arith))
 
 returns-2 : tie.Need-returns-2 Inv-loop μ-loop
 returns-2 c =
     let at-loop = c .before in
     let a = at-loop .before .before .args in
     let f = at-loop .loop .inv in
-    gives (f .taken) refl (filled-all ceiling 0 (a .timers) 3 (a .bytes .now) (a .from) f (omega arith)) (f .held)
+    gives (f .taken) refl (gathered-all ceiling 0 (a .timers) (a .bytes .now) (a .from) f (omega arith)) (f .hold)
 
 pub ceilings-spec : {M : Type 1} → statement M
 ceilings-spec =

@@ -28,14 +28,14 @@ module _ {bytes : List ℕ} where
 
   -- Behind a part that was taken, the whole goes on with its value.
   pub part-taken : {A B : Type 0} {r n r′ n′ : ℕ} {P : A → Type 0} {Q : B → Type 0} (p : Parser A) (f : A → Parser B) (s : List ℕ) → r ≡ 0 →
-      Gives bytes r n P (run p s) → ((a : A) → P a → Gives bytes r′ n′ Q (run (f a) (drop n bytes))) → Gives bytes r′ n′ Q (run (p >>= f) s)
+      Gives bytes r n P (run p s) → ((a : A) → run p s ≡ took a (drop n bytes) → P a → Gives bytes r′ n′ Q (run (f a) (drop n bytes))) → Gives bytes r′ n′ Q (run (p >>= f) s)
   part-taken p f s h (refuses z q) k = absurd (omega arith)
-  part-taken p f s h (gives a z q m) k = gives-same (run-bind p f s ∙ ap (λ (o : Outcome _). andThen o f) q) (k a m)
+  part-taken p f s h (gives a z q m) k = gives-same (run-bind p f s ∙ ap (λ (o : Outcome _). andThen o f) q) (k a q m)
 
   -- The same where the value is known.
   pub part-known : {A B : Type 0} {r n r′ n′ : ℕ} {v : A} {Q : B → Type 0} (p : Parser A) (f : A → Parser B) (s : List ℕ) → r ≡ 0 →
       Gives bytes r n (λ a. v ≡ a) (run p s) → Gives bytes r′ n′ Q (run (f v) (drop n bytes)) → Gives bytes r′ n′ Q (run (p >>= f) s)
-  part-known p f s h g k = part-taken p f s h g (λ a e. rw (sym e) k)
+  part-known p f s h g k = part-taken p f s h g (λ a q e. rw (sym e) k)
 
   -- The last part, whose value makes the whole's.
   pub part-last : {A B : Type 0} {r n : ℕ} {v : A} (p : Parser A) (f : A → B) (s : List ℕ) →

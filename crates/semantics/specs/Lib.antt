@@ -2,5 +2,6 @@
 pub mod Condition
 pub mod Automaton
 pub mod Region
+pub mod Point
 -- Theorems:
 pub mod Regions

@@ -3,5 +3,7 @@ pub mod Condition
 pub mod Automaton
 pub mod Region
 pub mod Point
+pub mod Corner
 -- Theorems:
 pub mod Regions
+pub mod Corners

@@ -15,24 +15,24 @@ use Rattle.semantics.specs.Point.{Point, AllPoints}
 use Rattle.semantics.specs.Regions.Lengths.{prices-top}
 use Rattle.semantics.specs.Regions.Meets.{meets-point, meetsAll-point, within-point}
 
-module _ (r : PricedRegion) (wf : WellFormed r) where
-  -- The point whose denominator is k + 1 and whose fractions are the numbers of the groups.
-  abbrev pub pointOf : ℕ → ℕ
-  pointOf x = suc (top r) * getD (r .whole) x 0 + getD (r .group) x 0
+-- The point whose denominator is k + 1 and whose fractions are the numbers of the groups.
+abbrev pub pointOf : PricedRegion → ℕ → ℕ
+pointOf r x = suc (top r) * getD (r .whole) x 0 + getD (r .group) x 0
 
+module _ (r : PricedRegion) (wf : WellFormed r) where
   group-small : (x : ℕ) → getD (r .group) x 0 < suc (top r)
   group-small x = omega (arith, wf .below x, prices-top r (wf .priced))
 
-  point-integer : (x : ℕ) → pointOf x / suc (top r) ≡ getD (r .whole) x 0
+  point-integer : (x : ℕ) → pointOf r x / suc (top r) ≡ getD (r .whole) x 0
   point-integer x =
       mul-add-div {m = suc (top r)} (omega arith) (getD (r .whole) x 0) (getD (r .group) x 0)
       ∙ ap (λ (n : ℕ). getD (r .whole) x 0 + n) (div-eq-of-lt (group-small x)) ∙ add-zero (getD (r .whole) x 0)
 
-  point-fraction : (x : ℕ) → pointOf x % suc (top r) ≡ getD (r .group) x 0
+  point-fraction : (x : ℕ) → pointOf r x % suc (top r) ≡ getD (r .group) x 0
   point-fraction x = mul-add-mod-self-left (suc (top r)) (getD (r .whole) x 0) (getD (r .group) x 0) ∙ mod-eq-of-lt (group-small x)
 
   -- Every well-formed region has a point.
-  pub region-point : Point (suc (top r)) pointOf r
+  pub region-point : Point (suc (top r)) (pointOf r) r
   region-point = record {
     from-one = omega arith;
     integer = λ x h. sym (point-integer x);
@@ -43,7 +43,7 @@ module _ (r : PricedRegion) (wf : WellFormed r) where
 
   -- What can be told from any one point can be told from all.
   all-points : (Tested : Type 0) (Does : ℕ → (ℕ → ℕ) → Type 0) → ((q : ℕ) (u : ℕ → ℕ) → Point q u r → Tested ↔ Does q u) → Tested ↔ AllPoints r Does
-  all-points Tested Does one = (λ t q u p. one q u p .0 t, λ a. one (suc (top r)) pointOf region-point .1 (a (suc (top r)) pointOf region-point))
+  all-points Tested Does one = (λ t q u p. one q u p .0 t, λ a. one (suc (top r)) (pointOf r) region-point .1 (a (suc (top r)) (pointOf r) region-point))
 
   -- "A region meets a condition if all its points do".
   pub meets-points : (c : Condition) → c .timer < length (r .whole) → (meets c r ≡ true) ↔ AllPoints r (λ q u. Holds q c (u (c .timer)))

@@ -1,10 +1,13 @@
 -- What the planner's contracts mean. Each page renders sentences of document 01 and names them.
 pub mod Condition
 pub mod Automaton
+pub mod Run
 pub mod Region
 pub mod Point
 pub mod Corner
 pub mod Node
+pub mod Chain
+pub mod Demand
 -- Theorems:
 pub mod Regions
 pub mod Corners

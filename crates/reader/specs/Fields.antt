@@ -3,6 +3,10 @@
 use Prim.Native.Nat.{ℕ}
 use mathlib.Core.List.{List}
 
+-- The greatest price and the greatest rate: each has one byte.
+abbrev pub mostPrice : ℕ
+mostPrice = 255
+
 -- Of each record the six condition bytes: on timers 0, 1, 2, then the further ones on timers 0, 1, 2.
 -- 0 stands for none: no condition byte is 0, since the codes begin at 1. "An absent rate or price is 0."
 pub record ModeFields : Type 0 where

@@ -2,6 +2,7 @@
 pub mod Parser
 pub mod Fields
 pub mod Format
+pub mod Layout
 pub mod Meaning
 pub mod Read
 pub mod Held

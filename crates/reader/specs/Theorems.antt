@@ -1,2 +1,8 @@
 -- Theorems about the definitions.
 pub mod Running
+pub mod Exactly
+pub mod Bits
+pub mod RecordLayouts
+pub mod Accepts
+pub mod Limits
+pub mod Proper

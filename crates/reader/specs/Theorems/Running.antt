@@ -32,6 +32,9 @@ module _ {A : Type 0} (k : ℕ → Parser A) (bytes : List ℕ) (from : ℕ) whe
 pub took-same : {A : Type 0} {a b : A} {s t : List ℕ} → took a s ≡ took b t → a ≡ b
 took-same h = cc
 
+pub took-rest : {A : Type 0} {a b : A} {s t : List ℕ} → took a s ≡ took b t → s ≡ t
+took-rest h = cc
+
 -- A value behind a parser in two parts comes of both.
 pub record Parts {A B : Type 0} (p : Parser A) (f : A → Parser B) (bytes : List ℕ) (b : B) (rest : List ℕ) : Type 0 where
   pub value : A

@@ -12,6 +12,7 @@ use Rattle.reader.specs.Fields.{mostPrice, ModeFields, MoveFields, Field
 use Rattle.reader.specs.Layout.{Optional, present, absent, InRow, none, more, ModeLayout, MoveLayout, Layout}
 use Rattle.reader.specs.Read.{accepted, read}
 use Rattle.reader.specs.Theorems.Accepts.{accepts}
+use Rattle.reader.specs.Theorems.Rows.{AllIn, mem-front, mem-back, row-every}
 
 optional-short : {Good : ℕ → Type 0} {t : Bool} (xs : List ℕ) (b : ℕ) → Optional Good t xs b → length xs ≤ 1
 optional-short xs b (present g) = omega arith
@@ -66,17 +67,8 @@ layout-short bytes f k =
 pub accepted-short : (bytes : List ℕ) (f : Fields) → read bytes ≡ accepted f → length bytes ≤ 839
 accepted-short bytes f e = layout-short bytes f (accepts bytes f .0 e .0)
 
-mem-front : (b : ℕ) (xs ys : List ℕ) → List·Memᴰ b xs → List·Memᴰ b (xs ++ ys)
-mem-front b [] ys m = absurd (List·Memᴰ·not-nil m)
-mem-front b (x ∷ xs) ys m = elim (List·Memᴰ·cases-cons m) [ inl e ↦ List·Memᴰ.List·Memᴰ·head e | inr k ↦ List·Memᴰ.List·Memᴰ·tail (mem-front b xs ys k) ]
-
-mem-back : (b : ℕ) (xs ys : List ℕ) → List·Memᴰ b ys → List·Memᴰ b (xs ++ ys)
-mem-back b [] ys m = m
-mem-back b (x ∷ xs) ys m = List·Memᴰ.List·Memᴰ·tail (mem-back b xs ys m)
-
--- Every byte of the list is a byte.
 abbrev Bytes : List ℕ → Type 0
-Bytes xs = (b : ℕ) → List·Memᴰ b xs → b < 256
+Bytes = AllIn (λ b. b < 256)
 
 optional-bound : {Good : ℕ → Type 0} {t : Bool} (xs : List ℕ) (b : ℕ) → Bytes xs → Optional Good t xs b → b ≤ mostPrice
 optional-bound xs b h (present g) = omega (arith, h b (List·Memᴰ.List·Memᴰ·head refl))
@@ -93,15 +85,6 @@ move-bound m n xs f h k =
     (λ b q. h b (rw (k .split) (List·Memᴰ.List·Memᴰ·tail (List·Memᴰ.List·Memᴰ·tail (List·Memᴰ.List·Memᴰ·tail
         (mem-front b (k .price-bytes) (k .condition-bytes ++ k .reset-bytes) q)))))) (k .price)
 
--- What each part of a row has by its bytes, every part has.
-row-all : {A : Type 0} {R : ℕ → List ℕ → A → Type 0} (P : A → Type 0) → ((i : ℕ) (xs : List ℕ) (a : A) → Bytes xs → R i xs a → P a) →
-    (i : ℕ) (xs : List ℕ) (l : List A) → Bytes xs → InRow R i xs l → (a : A) → List·Memᴰ a l → P a
-row-all P h i xs l s none = λ a m. absurd (List·Memᴰ·not-nil m)
-row-all P h i xs l s (more {xs = front} {ys = back} {a = first} {l = rest} r k) = λ a m. elim (List·Memᴰ·cases-cons m) [
-  | inl e ↦ rw e (h i front first (λ b q. s b (mem-front b front back q)) r)
-  | inr q ↦ row-all P h (suc i) back rest (λ b q. s b (mem-back b front back q)) k a q
-]
-
 -- Rates and prices are at most 255.
 pub record Bounded (f : Fields) : Type 0 where
   pub rates : (m : ModeFields) → List·Memᴰ m (f .modes) → m .rate ≤ mostPrice
@@ -113,9 +96,9 @@ layout-bounded bytes f h k =
     λ b m. h b (rw (k .split) (List·Memᴰ.List·Memᴰ·tail (List·Memᴰ.List·Memᴰ·tail (List·Memᴰ.List·Memᴰ·tail (List·Memᴰ.List·Memᴰ·tail
         (mem-back b (f .ceilings) (k .mode-bytes ++ k .move-bytes) m)))))) in
     record {
-      rates = row-all (λ m. m .rate ≤ mostPrice) (λ i. mode-bound (length (f .ceilings))) 0 (k .mode-bytes) (f .modes)
+      rates = row-every (λ b. b < 256) (λ m. m .rate ≤ mostPrice) (λ i. mode-bound (length (f .ceilings))) 0 (k .mode-bytes) (f .modes)
           (λ b m. inside b (mem-front b (k .mode-bytes) (k .move-bytes) m)) (k .modes);
-      prices = row-all (λ e. e .price ≤ mostPrice) (λ i. move-bound (length (f .modes)) (length (f .ceilings))) 0 (k .move-bytes) (f .moves)
+      prices = row-every (λ b. b < 256) (λ e. e .price ≤ mostPrice) (λ i. move-bound (length (f .modes)) (length (f .ceilings))) 0 (k .move-bytes) (f .moves)
           (λ b m. inside b (mem-back b (k .mode-bytes) (k .move-bytes) m)) (k .moves);
     }
 

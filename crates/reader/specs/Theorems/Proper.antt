@@ -19,6 +19,7 @@ use Rattle.reader.specs.Layout.{Optional, present, absent, InRow, none, 
 use Rattle.reader.specs.Meaning.{conditionOf, conditionsFrom, named, modeOf, moveOf, automaton}
 use Rattle.reader.specs.Read.{accepted, read}
 use Rattle.reader.specs.Theorems.Accepts.{accepts}
+use Rattle.reader.specs.Theorems.Rows.{row-all, map-all}
 
 -- A condition that is there has its bit.
 optional-stands : {Good : ℕ → Type 0} {t : Bool} (xs : List ℕ) (b : ℕ) → Optional Good t xs b → (b ≡ 0 → ⊥) → t ≡ true
@@ -82,14 +83,10 @@ one-of-three x m = elim (List·Memᴰ·cases-cons m) [
 resets-on : (n b : ℕ) → TimersThere n 0 b → (x : ℕ) → List·Memᴰ x (named b (0 ∷ 1 ∷ 2 ∷ [])) → x < n
 resets-on n b h = named-on n b (0 ∷ 1 ∷ 2 ∷ []) (λ x m e. h x (one-of-three x m) (ap (stands b) (zero-add x) ∙ e))
 
--- What each part of a row has, every part has, seen through a function.
-row-map : {A B : Type 0} {R : ℕ → List ℕ → A → Type 0} (f : A → B) (P : B → Type 0) → ((i : ℕ) (xs : List ℕ) (a : A) → R i xs a → P (f a)) →
-    (i : ℕ) (xs : List ℕ) (l : List A) → InRow R i xs l → (b : B) → List·Memᴰ b (map f l) → P b
-row-map f P h i xs l none = λ b m. absurd (List·Memᴰ·not-nil m)
-row-map f P h i xs l (more {xs = front} {ys = back} {a = a} {l = rest} r k) = λ b m. elim (List·Memᴰ·cases-cons m) [
-  | inl e ↦ rw e (h i front a r)
-  | inr q ↦ row-map f P h (suc i) back rest k b q
-]
+-- What the layout of a move record gives, every move has.
+moves-all : {bytes : List ℕ} (f : Fields) → Layout bytes f → (P : Move → Type 0) →
+    ((i : ℕ) (xs : List ℕ) (a : MoveFields) → MoveLayout (length (f .modes)) (length (f .ceilings)) xs a → P (moveOf a)) → (e : Move) → List·Memᴰ e (map moveOf (f .moves)) → P e
+moves-all f k P h = map-all moveOf P (f .moves) (row-all (λ a. P (moveOf a)) h 0 (k .move-bytes) (f .moves) (k .moves))
 
 pub layout-proper : (bytes : List ℕ) (f : Fields) → Layout bytes f → startHolds (automaton f) ≡ true → Proper (automaton f)
 layout-proper bytes f k s =
@@ -101,11 +98,17 @@ layout-proper bytes f k s =
       some-timer = k .timers-range .0;
       goal-there = omega (arith, k .goal-range);
       few-moves = omega (arith, k .moves-range);
-      invariants-on = row-map modeOf (λ o. OnTimers n (o .conditions)) (λ i xs a r. conditions-on n (r .map) (r .condition-bytes) (a .conditions) (r .first) (r .further) (r .conditions)) 0 (k .mode-bytes) (f .modes) (k .modes);
-      guards-on = row-map moveOf (λ e. OnTimers n (e .conditions)) (λ i xs a r. conditions-on n (r .map) (r .condition-bytes) (a .conditions) (r .first) (r .further) (r .conditions)) 0 (k .move-bytes) (f .moves) (k .moves);
-      resets-on = row-map moveOf (λ e. (x : ℕ) → List·Memᴰ x (e .resets) → x < n) (λ i xs a r. resets-on n (a .resets) (resets-there (r .reset-bytes) (r .resets))) 0 (k .move-bytes) (f .moves) (k .moves);
-      source-there = row-map moveOf (λ e. e .source < length (map modeOf (f .modes))) (λ i xs a r. omega (arith, r .source)) 0 (k .move-bytes) (f .moves) (k .moves);
-      target-there = row-map moveOf (λ e. e .target < length (map modeOf (f .modes))) (λ i xs a r. omega (arith, r .target)) 0 (k .move-bytes) (f .moves) (k .moves);
+      invariants-on =
+          map-all modeOf (λ o. OnTimers n (o .conditions)) (f .modes)
+          (row-all (λ a. OnTimers n (modeOf a .conditions)) (λ i xs a r. conditions-on n (r .map) (r .condition-bytes) (a .conditions) (r .first) (r .further) (r .conditions))
+          0 (k .mode-bytes) (f .modes) (k .modes));
+      guards-on =
+          moves-all f k (λ e. OnTimers n (e .conditions))
+          (λ i xs a r. conditions-on n (r .map) (r .condition-bytes) (a .conditions) (r .first) (r .further) (r .conditions));
+      resets-on =
+          moves-all f k (λ e. (x : ℕ) → List·Memᴰ x (e .resets) → x < n) (λ i xs a r. resets-on n (a .resets) (resets-there (r .reset-bytes) (r .resets)));
+      source-there = moves-all f k (λ e. e .source < length (map modeOf (f .modes))) (λ i xs a r. omega (arith, r .source));
+      target-there = moves-all f k (λ e. e .target < length (map modeOf (f .modes))) (λ i xs a r. omega (arith, r .target));
       start-holds = s;
     }
 

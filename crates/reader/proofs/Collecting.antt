@@ -59,12 +59,12 @@ module _ {A : Type 0} (p : ℕ → Parser A) where
         let further : suc (first + length taken) ≡ first + length (taken ++ v ∷ []) = omega (arith, length-append taken (v ∷ [])) in
         let fewer : count - suc (length taken) ≡ count - length (taken ++ v ∷ []) = omega (arith, length-append taken (v ∷ [])) in
         record {
-      same =
-          step-count taken h (first + length taken) (count - suc (length taken)) refl refl next c
-          ∙ ap (after taken) (order-took (first + length taken) (count - suc (length taken)) (drop next bytes) (drop next′ bytes) v (rw f e))
-          ∙ after-after taken (v ∷ []) (run (inOrder p (suc (first + length taken)) (count - suc (length taken))) (drop next′ bytes))
-          ∙ ap₂ (λ (i m : ℕ). after (taken ++ v ∷ []) (run (inOrder p i m) (drop next′ bytes))) further fewer;
-    }
+          same =
+              step-count taken h (first + length taken) (count - suc (length taken)) refl refl next c
+              ∙ ap (after taken) (order-took (first + length taken) (count - suc (length taken)) (drop next bytes) (drop next′ bytes) v (rw f e))
+              ∙ after-after taken (v ∷ []) (run (inOrder p (suc (first + length taken)) (count - suc (length taken))) (drop next′ bytes))
+              ∙ ap₂ (λ (i m : ℕ). after (taken ++ v ∷ []) (run (inOrder p i m) (drop next′ bytes))) further fewer;
+        }
 
     pub collected-refused : {taken : List A} {next next′ next″ r : ℕ} {P : A → Type 0} {Q : List A → Type 0} → Collected taken next → length taken < count →
         (r ≡ 0 → ⊥) → Gives bytes r next′ P (run (p (first + length taken)) (drop next bytes)) → Gives bytes r next″ Q (run (inOrder p first count) (drop start bytes))

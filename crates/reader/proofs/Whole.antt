@@ -75,7 +75,7 @@ module _ (bytes : List ℕ) (h : HeaderRead) (gh : GivesHeader bytes h) where
       modes-refused x =
           part-known header _ bytes z (gh .gives)
           (part-taken (inOrder (λ i. within 2 1 15) 0 (h .timers)) _ (drop (h .next) bytes) y gc (λ cs q k.
-              part-refused (inOrder (λ i. modeRecord (h .timers)) 0 (h .modes)) _ (drop (c .next) bytes) x gm))
+          part-refused (inOrder (λ i. modeRecord (h .timers)) 0 (h .modes)) _ (drop (c .next) bytes) x gm))
 
       module _ (x : m .refusal ≡ 0) (e : Moves) (ge : GivesMoves (inOrder (λ i. moveRecord (h .modes) (h .timers)) 0 (h .moves)) bytes (m .next) e) where
         pub moves-refused : (e .refusal ≡ 0 → ⊥) → Gives bytes (e .refusal) 0 (λ (f : Fields). ⊥) (run table bytes)
@@ -83,29 +83,29 @@ module _ (bytes : List ℕ) (h : HeaderRead) (gh : GivesHeader bytes h) where
         moves-refused w =
             part-known header _ bytes z (gh .gives)
             (part-taken (inOrder (λ i. within 2 1 15) 0 (h .timers)) _ (drop (h .next) bytes) y gc (λ cs q k.
-                part-taken (inOrder (λ i. modeRecord (h .timers)) 0 (h .modes)) _ (drop (c .next) bytes) x gm (λ ms r l.
-                    part-refused (inOrder (λ i. moveRecord (h .modes) (h .timers)) 0 (h .moves)) _ (drop (m .next) bytes) w ge)))
+            part-taken (inOrder (λ i. modeRecord (h .timers)) 0 (h .modes)) _ (drop (c .next) bytes) x gm (λ ms r l.
+            part-refused (inOrder (λ i. moveRecord (h .modes) (h .timers)) 0 (h .moves)) _ (drop (m .next) bytes) w ge)))
 
         pub whole : e .refusal ≡ 0 → Gives bytes 0 (e .next) (Whole h c m e) (run table bytes)
         unfolding table
         whole w =
             part-known header _ bytes z (gh .gives)
             (part-taken (inOrder (λ i. within 2 1 15) 0 (h .timers)) _ (drop (h .next) bytes) y gc (λ cs q k.
-                part-taken (inOrder (λ i. modeRecord (h .timers)) 0 (h .modes)) _ (drop (c .next) bytes) x gm (λ ms r l.
-                    part-taken (inOrder (λ i. moveRecord (h .modes) (h .timers)) 0 (h .moves)) _ (drop (m .next) bytes) w ge (λ es t j.
-                        gives _ refl refl (record {
-                          goal = refl;
-                          timers = sym (order-length _ 0 (h .timers) (drop (h .next) bytes) cs _ q);
-                          modes = sym (order-length _ 0 (h .modes) (drop (c .next) bytes) ms _ r);
-                          moves = sym (order-length _ 0 (h .moves) (drop (m .next) bytes) es _ t);
-                          ceilings-held = k;
-                          modes-held = l;
-                          moves-held = j;
-                          start =
-                              ap (λ (a : List ℕ). holdAtZero (conditionsFrom 0 a))
-                              (ap (take 6) (l .invariants-held) ∙ first-six (h .timers) (drop (c .next) bytes) (drop (m .next) bytes) ms (h .modes) (gh .range z .0) r)
-                              ∙ sym (first-mode ms);
-                        })))))
+            part-taken (inOrder (λ i. modeRecord (h .timers)) 0 (h .modes)) _ (drop (c .next) bytes) x gm (λ ms r l.
+            part-taken (inOrder (λ i. moveRecord (h .modes) (h .timers)) 0 (h .moves)) _ (drop (m .next) bytes) w ge (λ es t j.
+            gives _ refl refl (record {
+              goal = refl;
+              timers = sym (order-length _ 0 (h .timers) (drop (h .next) bytes) cs _ q);
+              modes = sym (order-length _ 0 (h .modes) (drop (c .next) bytes) ms _ r);
+              moves = sym (order-length _ 0 (h .moves) (drop (m .next) bytes) es _ t);
+              ceilings-held = k;
+              modes-held = l;
+              moves-held = j;
+              start =
+                  ap (λ (a : List ℕ). holdAtZero (conditionsFrom 0 a))
+                  (ap (take 6) (l .invariants-held) ∙ first-six (h .timers) (drop (c .next) bytes) (drop (m .next) bytes) ms (h .modes) (gh .range z .0) r)
+                  ∙ sym (first-mode ms);
+            })))))
 
 -- The struct that `read` makes of the parts.
 abbrev tableOf : HeaderRead → CeilingsRead → Modes → Moves → Table

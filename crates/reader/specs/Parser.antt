@@ -4,7 +4,6 @@ use Prim.Native.Nat.{ℕ, zero, suc}
 use mathlib.Core.List.{List, [], _∷_}
 
 infixl 10 _>>=_
-
 -- A parser is done with a value, refuses by a number, or takes the next byte and goes on.
 pub data Parser (A : Type 0) : Type 0 where
   done : A → Parser A

@@ -14,7 +14,9 @@ ghost use Rattle.reader.specs.Held.{reading};
 ghost use Rattle.reader.specs.Step.{GivesField, GivesWithin, GivesConditions, GivesMode, GivesMove, GivesHeader, GivesCeilings, GivesModes, GivesMoves};
 
 pub const MOST_MODES: usize = 16;
+
 pub const MOST_TIMERS: usize = 3;
+
 pub const MOST_MOVES: usize = 64;
 
 // Conditions of a mode or a move: two for each of three timers.
@@ -22,11 +24,17 @@ pub const CONDITIONS: usize = 6;
 
 // The refusals of document 01 by their numbers.
 pub const NO_BYTE_LEFT: u8 = 1;
+
 pub const OUT_OF_RANGE: u8 = 2;
+
 pub const ABSENT_TIMER: u8 = 3;
+
 pub const BAD_CODE: u8 = 4;
+
 pub const NO_SUCH_MODE: u8 = 5;
+
 pub const BYTES_LEFT_OVER: u8 = 6;
+
 pub const START_FAILS: u8 = 7;
 
 // The fields of a table. Entries past the counts are 0.
@@ -126,16 +134,32 @@ fn byte_within(bytes: &[u8], from: usize, number: u8, low: u8, high: u8) -> Fiel
     ensures { λ r. ⌜ GivesWithin number low high (now (bytes .entry)) from r ⌝ }
 {
     if bytes.len() <= from {
-        return Field { refusal: NO_BYTE_LEFT, next: from, value: 0 };
+        return Field {
+            refusal: NO_BYTE_LEFT,
+            next: from,
+            value: 0,
+        };
     }
     let b = bytes[from];
     if b < low {
-        return Field { refusal: number, next: from, value: 0 };
+        return Field {
+            refusal: number,
+            next: from,
+            value: 0,
+        };
     }
     if high < b {
-        return Field { refusal: number, next: from, value: 0 };
+        return Field {
+            refusal: number,
+            next: from,
+            value: 0,
+        };
     }
-    Field { refusal: 0, next: from + 1, value: b }
+    Field {
+        refusal: 0,
+        next: from + 1,
+        value: b,
+    }
 }
 
 // The same where its bit stands; otherwise no byte, and 0.
@@ -146,7 +170,11 @@ fn optional(bytes: &[u8], from: usize, stands: bool, number: u8, low: u8, high: 
     if stands {
         byte_within(bytes, from, number, low, high)
     } else {
-        Field { refusal: 0, next: from, value: 0 }
+        Field {
+            refusal: 0,
+            next: from,
+            value: 0,
+        }
     }
 }
 
@@ -155,12 +183,24 @@ fn amount(bytes: &[u8], from: usize, map: u8) -> Field
     ensures { λ r. ⌜ GivesField (amount map) (now (bytes .entry)) from r ⌝ }
 {
     if map % 2 == 0 {
-        return Field { refusal: 0, next: from, value: 0 };
+        return Field {
+            refusal: 0,
+            next: from,
+            value: 0,
+        };
     }
     if bytes.len() <= from {
-        return Field { refusal: NO_BYTE_LEFT, next: from, value: 0 };
+        return Field {
+            refusal: NO_BYTE_LEFT,
+            next: from,
+            value: 0,
+        };
     }
-    Field { refusal: 0, next: from + 1, value: bytes[from] }
+    Field {
+        refusal: 0,
+        next: from + 1,
+        value: bytes[from],
+    }
 }
 
 // Numbers below this one have bits for the first so many timers alone.
@@ -183,10 +223,18 @@ fn bit_map(bytes: &[u8], from: usize, high: u8, timers: u8) -> Field
     let b = map.value;
     let limit = names(timers);
     if limit <= b / 2 % 8 {
-        return Field { refusal: ABSENT_TIMER, next: from, value: 0 };
+        return Field {
+            refusal: ABSENT_TIMER,
+            next: from,
+            value: 0,
+        };
     }
     if limit <= b / 16 % 8 {
-        return Field { refusal: ABSENT_TIMER, next: from, value: 0 };
+        return Field {
+            refusal: ABSENT_TIMER,
+            next: from,
+            value: 0,
+        };
     }
     map
 }
@@ -201,12 +249,20 @@ fn conditions(bytes: &[u8], from: usize, map: u8) -> ConditionsRead
         let stands = (map >> (1 + i)) % 2 == 1;
         let c = optional(bytes, next, stands, BAD_CODE, 16, 95);
         if c.refusal != 0 {
-            return ConditionsRead { refusal: c.refusal, next, bytes: read };
+            return ConditionsRead {
+                refusal: c.refusal,
+                next,
+                bytes: read,
+            };
         }
         read[i] = c.value;
         next = c.next;
     }
-    ConditionsRead { refusal: 0, next, bytes: read }
+    ConditionsRead {
+        refusal: 0,
+        next,
+        bytes: read,
+    }
 }
 
 fn mode_record(bytes: &[u8], from: usize, timers: u8) -> ModeRecord
@@ -215,15 +271,30 @@ fn mode_record(bytes: &[u8], from: usize, timers: u8) -> ModeRecord
 {
     let map = bit_map(bytes, from, 127, timers);
     if map.refusal != 0 {
-        return ModeRecord { refusal: map.refusal, next: from, rate: 0, conditions: [0; CONDITIONS] };
+        return ModeRecord {
+            refusal: map.refusal,
+            next: from,
+            rate: 0,
+            conditions: [0; CONDITIONS],
+        };
     }
     let rate = amount(bytes, map.next, map.value);
     if rate.refusal != 0 {
-        return ModeRecord { refusal: rate.refusal, next: from, rate: 0, conditions: [0; CONDITIONS] };
+        return ModeRecord {
+            refusal: rate.refusal,
+            next: from,
+            rate: 0,
+            conditions: [0; CONDITIONS],
+        };
     }
     let read = conditions(bytes, rate.next, map.value);
     let conditions = read.bytes;
-    ModeRecord { refusal: read.refusal, next: read.next, rate: rate.value as u16, conditions }
+    ModeRecord {
+        refusal: read.refusal,
+        next: read.next,
+        rate: rate.value as u16,
+        conditions,
+    }
 }
 
 // A move record that is refused.
@@ -285,15 +356,36 @@ fn header(bytes: &[u8]) -> HeaderRead
 {
     let m = byte_within(bytes, 0, OUT_OF_RANGE, 1, 16);
     if m.refusal != 0 {
-        return HeaderRead { refusal: m.refusal, next: 0, modes: 0, timers: 0, moves: 0, goal: 0 };
+        return HeaderRead {
+            refusal: m.refusal,
+            next: 0,
+            modes: 0,
+            timers: 0,
+            moves: 0,
+            goal: 0,
+        };
     }
     let n = byte_within(bytes, m.next, OUT_OF_RANGE, 1, 3);
     if n.refusal != 0 {
-        return HeaderRead { refusal: n.refusal, next: 0, modes: 0, timers: 0, moves: 0, goal: 0 };
+        return HeaderRead {
+            refusal: n.refusal,
+            next: 0,
+            modes: 0,
+            timers: 0,
+            moves: 0,
+            goal: 0,
+        };
     }
     let e = byte_within(bytes, n.next, OUT_OF_RANGE, 0, 64);
     if e.refusal != 0 {
-        return HeaderRead { refusal: e.refusal, next: 0, modes: 0, timers: 0, moves: 0, goal: 0 };
+        return HeaderRead {
+            refusal: e.refusal,
+            next: 0,
+            modes: 0,
+            timers: 0,
+            moves: 0,
+            goal: 0,
+        };
     }
     let goal = byte_within(bytes, e.next, OUT_OF_RANGE, 0, m.value - 1);
     HeaderRead {
@@ -316,12 +408,20 @@ fn ceilings(bytes: &[u8], from: usize, timers: u8) -> CeilingsRead
     for i in 0..timers as usize {
         let c = byte_within(bytes, next, OUT_OF_RANGE, 1, 15);
         if c.refusal != 0 {
-            return CeilingsRead { refusal: c.refusal, next, ceilings: read };
+            return CeilingsRead {
+                refusal: c.refusal,
+                next,
+                ceilings: read,
+            };
         }
         read[i] = c.value;
         next = c.next;
     }
-    CeilingsRead { refusal: 0, next, ceilings: read }
+    CeilingsRead {
+        refusal: 0,
+        next,
+        ceilings: read,
+    }
 }
 
 // Stores the six conditions of a record from a place on.
@@ -344,14 +444,24 @@ fn mode_records(bytes: &[u8], from: usize, timers: u8, modes: u8) -> Modes
     for i in 0..modes as usize {
         let m = mode_record(bytes, next, timers);
         if m.refusal != 0 {
-            return Modes { refusal: m.refusal, next, rates, invariants };
+            return Modes {
+                refusal: m.refusal,
+                next,
+                rates,
+                invariants,
+            };
         }
         rates[i] = m.rate;
         let conditions = m.conditions;
         store(&mut invariants, CONDITIONS * i, conditions);
         next = m.next;
     }
-    Modes { refusal: 0, next, rates, invariants }
+    Modes {
+        refusal: 0,
+        next,
+        rates,
+        invariants,
+    }
 }
 
 fn move_records(bytes: &[u8], from: usize, timers: u8, modes: u8, moves: u8) -> Moves
@@ -367,7 +477,15 @@ fn move_records(bytes: &[u8], from: usize, timers: u8, modes: u8, moves: u8) -> 
     for i in 0..moves as usize {
         let e = move_record(bytes, next, modes, timers);
         if e.refusal != 0 {
-            return Moves { refusal: e.refusal, next, sources, targets, prices, guards, resets };
+            return Moves {
+                refusal: e.refusal,
+                next,
+                sources,
+                targets,
+                prices,
+                guards,
+                resets,
+            };
         }
         sources[i] = e.source;
         targets[i] = e.target;
@@ -377,7 +495,15 @@ fn move_records(bytes: &[u8], from: usize, timers: u8, modes: u8, moves: u8) -> 
         resets[i] = e.resets;
         next = e.next;
     }
-    Moves { refusal: 0, next, sources, targets, prices, guards, resets }
+    Moves {
+        refusal: 0,
+        next,
+        sources,
+        targets,
+        prices,
+        guards,
+        resets,
+    }
 }
 
 // Whether a condition byte, or 0 for none, holds of a timer at 0.

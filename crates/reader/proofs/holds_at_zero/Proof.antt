@@ -25,10 +25,10 @@ returns-3 c =
     let rest = c .before .match .rest in
     let three-or-four : (k ≡ 3 → ⊥) → k ≡ 4 =
     λ h.
-        let not-1 : k ≡ 1 → ⊥ = rest .1 in
-        let not-0 : k ≡ 0 → ⊥ = λ e. rest .0 .1 (inl e) in
-        let not-2 : k ≡ 2 → ⊥ = λ e. rest .0 .1 (inr e) in
-        omega arith in
+    let not-1 : k ≡ 1 → ⊥ = rest .1 in
+    let not-0 : k ≡ 0 → ⊥ = λ e. rest .0 .1 (inl e) in
+    let not-2 : k ≡ 2 → ⊥ = λ e. rest .0 .1 (inr e) in
+    omega arith in
     sym (zero-one 0 b ∙ elim (ℕ-discrete k 3) [ yes e ↦ zero-code-3 b e | no e ↦ zero-code-4 b (three-or-four e) ])
 
 returns-4 : tie.Need-returns-4

@@ -33,7 +33,7 @@ returns-2 c =
     let h = one .before .before .header in
     let cs = c .before .before .before .ceilings in
     c .refused2 .ensures ∙ ap reading (sym (reads-refused bytes (c .before .if2 .taken)
-        (ceilings-refused bytes (h .result) (h .ensures) (one .if1 .left) (cs .result) (cs .ensures) (c .before .if2 .taken))))
+    (ceilings-refused bytes (h .result) (h .ensures) (one .if1 .left) (cs .result) (cs .ensures) (c .before .if2 .taken))))
 
 mode-records-requires : tie.Need-mode-records-requires
 mode-records-requires c κs =
@@ -52,7 +52,7 @@ returns-3 c =
     let cs = two .before .before .ceilings in
     let ms = c .before .before .before .mode-records in
     c .refused3 .ensures ∙ ap reading (sym (reads-refused bytes (c .before .if3 .taken)
-        (modes-refused bytes (h .result) (h .ensures) (one .if1 .left) (cs .result) (cs .ensures) (two .if2 .left) (ms .result) (ms .ensures) (c .before .if3 .taken))))
+    (modes-refused bytes (h .result) (h .ensures) (one .if1 .left) (cs .result) (cs .ensures) (two .if2 .left) (ms .result) (ms .ensures) (c .before .if3 .taken))))
 
 move-records-requires : tie.Need-move-records-requires
 move-records-requires c κs =
@@ -73,8 +73,8 @@ returns-4 c =
     let ms = three .before .before .mode-records in
     let es = c .before .before .before .move-records in
     c .refused4 .ensures ∙ ap reading (sym (reads-refused bytes (c .before .if4 .taken)
-        (moves-refused bytes (h .result) (h .ensures) (one .if1 .left) (cs .result) (cs .ensures) (two .if2 .left) (ms .result) (ms .ensures) (three .if3 .left)
-        (es .result) (es .ensures) (c .before .if4 .taken))))
+    (moves-refused bytes (h .result) (h .ensures) (one .if1 .left) (cs .result) (cs .ensures) (two .if2 .left) (ms .result) (ms .ensures) (three .if3 .left)
+    (es .result) (es .ensures) (c .before .if4 .taken))))
 
 refused-requires-5 : tie.Need-refused-requires-5
 refused-requires-5 c κs = search needs

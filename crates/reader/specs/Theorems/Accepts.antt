@@ -33,7 +33,7 @@ Between low high = One (λ b. (low ≤ b) × (b ≤ high))
 abbrev HeaderParts : List ℕ → Header → Type 0
 HeaderParts =
     Both (Between 1 16) (λ m. Both (Between 1 3) (λ n. Both (Between 0 64) (λ e.
-        Made (λ g. record { modes = m; timers = n; moves = e; goal = g }) (Between 0 (m - 1)))))
+    Made (λ g. record { modes = m; timers = n; moves = e; goal = g }) (Between 0 (m - 1)))))
 
 header-lays : (xs : List ℕ) (h : Header) → HeaderParts xs h → HeaderLayout xs h
 header-lays xs h k =
@@ -102,7 +102,7 @@ Good c = (1 ≤ c) × (c ≤ 15)
 abbrev TableParts : List ℕ → Fields → Type 0
 TableParts =
     Both HeaderLayout (λ h. Both (Row (λ i. One Good) 0 (h .timers)) (λ cs. Both (Row (λ i. ModeLayout (h .timers)) 0 (h .modes)) (λ ms.
-        Made (λ es. record { goal = h .goal; ceilings = cs; modes = ms; moves = es }) (Row (λ i. MoveLayout (h .modes) (h .timers)) 0 (h .moves)))))
+    Made (λ es. record { goal = h .goal; ceilings = cs; modes = ms; moves = es }) (Row (λ i. MoveLayout (h .modes) (h .timers)) 0 (h .moves)))))
 
 table-lays : (xs : List ℕ) (f : Fields) → TableParts xs f → Layout xs f
 table-lays xs f k =
@@ -120,7 +120,7 @@ table-lays xs f k =
       split =
           k .split ∙ ap (λ (l : List ℕ). l ++ k .back) (h .split)
           ∙ ap (λ (l : List ℕ). k .value .modes ∷ k .value .timers ∷ k .value .moves ∷ k .value .goal ∷ l)
-              (c .split ∙ ap (λ (l : List ℕ). l ++ c .back) (t .0) ∙ ap (λ (l : List ℕ). c .value ++ l) (m .split))
+          (c .split ∙ ap (λ (l : List ℕ). l ++ c .back) (t .0) ∙ ap (λ (l : List ℕ). c .value ++ l) (m .split))
           ∙ rw (n, j, o);
       modes-range = rw j at (h .modes);
       timers-range = rw n at (h .timers);
@@ -161,8 +161,8 @@ unfolding table
 table-exactly =
     reworded table-lays lays-table
     (both-given header-exactly (λ h xs r. both (order-exactly (λ i. within-exactly 2 1 15) 0 (h .timers)) (λ cs.
-        both (order-exactly (λ i. mode-exactly (h .timers) (r .timers .0) (r .timers .1)) 0 (h .modes)) (λ ms.
-        made _ (order-exactly (λ i. move-exactly (h .timers) (r .timers .0) (r .timers .1) (h .modes) (r .modes .0)) 0 (h .moves))))))
+    both (order-exactly (λ i. mode-exactly (h .timers) (r .timers .0) (r .timers .1)) 0 (h .modes)) (λ ms.
+    made _ (order-exactly (λ i. move-exactly (h .timers) (r .timers .0) (r .timers .1) (h .modes) (r .modes .0)) 0 (h .moves))))))
 
 -- Bytes are a layout of one list of fields at most.
 pub layout-once : (bytes : List ℕ) (f g : Fields) → Layout bytes f → Layout bytes g → f ≡ g

@@ -39,7 +39,7 @@ moves-held (e ∷ es) s t p g r h =
     let six = h e (List·Memᴰ.List·Memᴰ·head refl) in
     let c = flat (map (λ e. e .conditions) es) in
     ap₂ (λ (k : List ℕ) (l : List MoveFields).
-        record { source = e .source; target = e .target; price = e .price; conditions = k; resets = e .resets } ∷ l)
+    record { source = e .source; target = e .target; price = e .price; conditions = k; resets = e .resets } ∷ l)
     (first-row (e .conditions) c g six)
     (ap (λ (k : List ℕ). movesFrom (length es) (map (λ e. e .source) es ++ s) (map (λ e. e .target) es ++ t) (map (λ e. e .price) es ++ p) k (map (λ e. e .resets) es ++ r))
     (other-rows (e .conditions) c g six) ∙ moves-held es s t p g r (λ o k. h o (List·Memᴰ.List·Memᴰ·tail k)))

@@ -83,7 +83,7 @@ move-bound : (m n : ℕ) (xs : List ℕ) (f : MoveFields) → Bytes xs → MoveL
 move-bound m n xs f h k =
     optional-bound (k .price-bytes) (f .price)
     (λ b q. h b (rw (k .split) (List·Memᴰ.List·Memᴰ·tail (List·Memᴰ.List·Memᴰ·tail (List·Memᴰ.List·Memᴰ·tail
-        (mem-front b (k .price-bytes) (k .condition-bytes ++ k .reset-bytes) q)))))) (k .price)
+    (mem-front b (k .price-bytes) (k .condition-bytes ++ k .reset-bytes) q)))))) (k .price)
 
 -- Rates and prices are at most 255.
 pub record Bounded (f : Fields) : Type 0 where
@@ -94,7 +94,7 @@ layout-bounded : (bytes : List ℕ) (f : Fields) → Bytes bytes → Layout byte
 layout-bounded bytes f h k =
     let inside : Bytes (k .mode-bytes ++ k .move-bytes) =
     λ b m. h b (rw (k .split) (List·Memᴰ.List·Memᴰ·tail (List·Memᴰ.List·Memᴰ·tail (List·Memᴰ.List·Memᴰ·tail (List·Memᴰ.List·Memᴰ·tail
-        (mem-back b (f .ceilings) (k .mode-bytes ++ k .move-bytes) m)))))) in
+    (mem-back b (f .ceilings) (k .mode-bytes ++ k .move-bytes) m)))))) in
     record {
       rates = row-every (λ b. b < 256) (λ m. m .rate ≤ mostPrice) (λ i. mode-bound (length (f .ceilings))) 0 (k .mode-bytes) (f .modes)
           (λ b m. inside b (mem-front b (k .mode-bytes) (k .move-bytes) m)) (k .modes);

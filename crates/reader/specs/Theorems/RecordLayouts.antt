@@ -32,8 +32,8 @@ unfolding conditions
 conditions-exactly map =
     reworded (λ xs l k. record { six = k .0; row = k .1 }) (λ xs l k. (k .six, k .row))
     (order-exactly (λ bit. optional-exactly
-        (reworded (λ xs b k. (k .0, (omega (arith, k .1), omega (arith, k .1)))) (λ xs b k. (k .0, (omega (arith, k .1), omega (arith, k .1)))) (within-exactly 4 16 95))
-        (stands map bit)) 1 6)
+    (reworded (λ xs b k. (k .0, (omega (arith, k .1), omega (arith, k .1)))) (λ xs b k. (k .0, (omega (arith, k .1), omega (arith, k .1)))) (within-exactly 4 16 95))
+    (stands map bit)) 1 6)
 
 module _ (n : ℕ) (some : 1 ≤ n) (few : n ≤ 3) where
   -- The byte of a bit map is tested for its range, and then for its timers.
@@ -43,11 +43,14 @@ module _ (n : ℕ) (some : 1 ≤ n) (few : n ≤ 3) where
   map-lays high xs a k =
       let c = and-both (present n (k .value / 2 % 8)) (present n (k .value / 16 % 8)) (k .second .2) in
       let e : xs ≡ k .value ∷ [] = k .split ∙ ap (λ (l : List ℕ). k .front ++ l) (k .second .0) ∙ append-nil (k .front) ∙ k .first .0 in
-      rw (← k .second .1) (e, record {
-        small = k .first .1 .1;
-        first = below-there n 1 (k .value) some few (ltb-true (k .value / 2 % 8) (2 ^ n) (c .0));
-        further = below-there n 4 (k .value) some few (ltb-true (k .value / 16 % 8) (2 ^ n) (c .1));
-      })
+      rw (← k .second .1) (
+        e,
+        record {
+          small = k .first .1 .1;
+          first = below-there n 1 (k .value) some few (ltb-true (k .value / 2 % 8) (2 ^ n) (c .0));
+          further = below-there n 4 (k .value) some few (ltb-true (k .value / 16 % 8) (2 ^ n) (c .1));
+        },
+      )
 
   map-exactly : (high : ℕ) → Exactly (bitMap high n) (One (MapByte high n))
   unfolding bitMap
@@ -59,10 +62,14 @@ module _ (n : ℕ) (some : 1 ≤ n) (few : n ≤ 3) where
         back = [];
         split = k .0;
         first = (refl, (omega arith, k .1 .small));
-        second = (refl, refl, rw (
-          lt-ltb (a / 2 % 8) (2 ^ n) (there-below n 1 a some few (k .1 .first)),
-          lt-ltb (a / 16 % 8) (2 ^ n) (there-below n 4 a some few (k .1 .further)),
-        ));
+        second = (
+          refl,
+          refl,
+          rw (
+            lt-ltb (a / 2 % 8) (2 ^ n) (there-below n 1 a some few (k .1 .first)),
+            lt-ltb (a / 16 % 8) (2 ^ n) (there-below n 4 a some few (k .1 .further)),
+          ),
+        );
       })
       (both (within-exactly 3 0 high) (λ b. guarded (present n (b / 2 % 8) && present n (b / 16 % 8)) b 3))
 
@@ -70,7 +77,7 @@ module _ (n : ℕ) (some : 1 ≤ n) (few : n ≤ 3) where
   abbrev ModeParts : List ℕ → ModeFields → Type 0
   ModeParts =
       Both (One (MapByte 127 n)) (λ map.
-          Both (Amount map) (λ rate. Made (λ cs. record { rate = rate; conditions = cs }) (SixConditions map)))
+      Both (Amount map) (λ rate. Made (λ cs. record { rate = rate; conditions = cs }) (SixConditions map)))
 
   mode-lays : (xs : List ℕ) (a : ModeFields) → ModeParts xs a → ModeLayout n xs a
   mode-lays xs a k =
@@ -117,7 +124,7 @@ module _ (n : ℕ) (some : 1 ≤ n) (few : n ≤ 3) where
     abbrev MoveParts : List ℕ → MoveFields → Type 0
     MoveParts =
         Both (One (MapByte 255 n)) (λ map. Both ModeByte (λ source. Both ModeByte (λ target. Both (Amount map) (λ price. Both (SixConditions map) (λ cs.
-            Made (λ resets. record { source = source; target = target; price = price; conditions = cs; resets = resets }) (Optional (IsReset n) (stands map 7)))))))
+        Made (λ resets. record { source = source; target = target; price = price; conditions = cs; resets = resets }) (Optional (IsReset n) (stands map 7)))))))
 
     move-lays : (xs : List ℕ) (a : MoveFields) → MoveParts xs a → MoveLayout m n xs a
     move-lays xs a k =
@@ -188,12 +195,12 @@ module _ (n : ℕ) (some : 1 ≤ n) (few : n ≤ 3) where
     reset-exactly =
         reworded
         (λ xs b k.
-            let l : b < 2 ^ n = omega (arith, k .1, pow-pos n) in
-            let bits : b < 8 = omega (arith, pow-mono few) in
-            (k .0, record { bits = bits; there = below-there n 0 b some few (rw (div-one b, mod-eq-of-lt bits) l) }))
+        let l : b < 2 ^ n = omega (arith, k .1, pow-pos n) in
+        let bits : b < 8 = omega (arith, pow-mono few) in
+        (k .0, record { bits = bits; there = below-there n 0 b some few (rw (div-one b, mod-eq-of-lt bits) l) }))
         (λ xs b k.
-            let l : b < 2 ^ n = rw (div-one b, mod-eq-of-lt (k .1 .bits)) at (there-below n 0 b some few (k .1 .there)) in
-            (k .0, (omega arith, omega arith)))
+        let l : b < 2 ^ n = rw (div-one b, mod-eq-of-lt (k .1 .bits)) at (there-below n 0 b some few (k .1 .there)) in
+        (k .0, (omega arith, omega arith)))
         (within-exactly 3 0 (2 ^ n - 1))
 
     pub move-exactly : Exactly (moveRecord m n) (MoveLayout m n)
@@ -201,4 +208,4 @@ module _ (n : ℕ) (some : 1 ≤ n) (few : n ≤ 3) where
     move-exactly =
         reworded move-lays lays-move
         (both (map-exactly 255) (λ map. both (within-exactly 5 0 (m - 1)) (λ source. both (within-exactly 5 0 (m - 1)) (λ target.
-            both (amount-exactly map) (λ price. both (conditions-exactly map) (λ cs. made _ (optional-exactly reset-exactly (stands map 7))))))))
+        both (amount-exactly map) (λ price. both (conditions-exactly map) (λ cs. made _ (optional-exactly reset-exactly (stands map 7))))))))

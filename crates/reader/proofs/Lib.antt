@@ -1,6 +1,6 @@
 pub mod Giving
 pub mod Collecting
 pub mod Padding
-pub mod Records
+pub mod Storing
 pub mod Whole
 pub mod Zero

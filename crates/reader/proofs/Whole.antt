@@ -16,16 +16,16 @@ use Rattle.reader.specs.Meaning.{conditionsFrom, modeOf, automaton}
 use Rattle.reader.specs.Read.{Judgement, accepted, rejected, judge, read}
 use Rattle.reader.specs.Held.{pad, flat, held, reading}
 use Rattle.reader.specs.Step.{Gives, refuses, gives, GivesHeader, GivesCeilings, GivesModes, GivesMoves, HoldModes, HoldMoves, headerOf}
-use Rattle.reader.specs.declared.HeaderRead.{HeaderRead}
-use Rattle.reader.specs.declared.CeilingsRead.{CeilingsRead}
-use Rattle.reader.specs.declared.Modes.{Modes}
-use Rattle.reader.specs.declared.Moves.{Moves}
+use Rattle.reader.specs.declared.records.HeaderRead.{HeaderRead}
+use Rattle.reader.specs.declared.records.CeilingsRead.{CeilingsRead}
+use Rattle.reader.specs.declared.records.Modes.{Modes}
+use Rattle.reader.specs.declared.records.Moves.{Moves}
 use Rattle.reader.specs.declared.Table.{Table}
 use Rattle.reader.specs.declared.Reading.{Reading}
 use Rattle.reader.specs.declared.Verdict.the-variants.{Accepted}
 use Rattle.reader.specs.Theorems.Running.{parts, order-length, took-same}
 use Rattle.reader.proofs.Giving.{part-taken, part-known, part-refused}
-use Rattle.reader.proofs.Records.{mode-six}
+use Rattle.reader.proofs.Storing.{mode-six}
 
 -- The first mode's conditions are the first six entries of the array.
 first-six : (n : ℕ) (s rest : List ℕ) (ms : List ModeFields) (k : ℕ) → 0 < k → run (inOrder (λ i. modeRecord n) 0 k) s ≡ took ms rest →

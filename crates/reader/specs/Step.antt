@@ -9,14 +9,14 @@ use Rattle.reader.specs.Parser.{Parser, Outcome, refused, took, run}
 use Rattle.reader.specs.Fields.{ModeFields, MoveFields}
 use Rattle.reader.specs.Format.{within, Header, header}
 use Rattle.reader.specs.Held.{pad, flat}
-use Rattle.reader.specs.declared.Field.{Field}
-use Rattle.reader.specs.declared.ConditionsRead.{ConditionsRead}
-use Rattle.reader.specs.declared.ModeRecord.{ModeRecord}
-use Rattle.reader.specs.declared.MoveRecord.{MoveRecord}
-use Rattle.reader.specs.declared.Modes.{Modes}
-use Rattle.reader.specs.declared.HeaderRead.{HeaderRead}
-use Rattle.reader.specs.declared.CeilingsRead.{CeilingsRead}
-use Rattle.reader.specs.declared.Moves.{Moves}
+use Rattle.reader.specs.declared.fields.Field.{Field}
+use Rattle.reader.specs.declared.fields.ConditionsRead.{ConditionsRead}
+use Rattle.reader.specs.declared.records.ModeRecord.{ModeRecord}
+use Rattle.reader.specs.declared.records.MoveRecord.{MoveRecord}
+use Rattle.reader.specs.declared.records.Modes.{Modes}
+use Rattle.reader.specs.declared.records.HeaderRead.{HeaderRead}
+use Rattle.reader.specs.declared.records.CeilingsRead.{CeilingsRead}
+use Rattle.reader.specs.declared.records.Moves.{Moves}
 
 -- A refusal by its number; or no refusal, 0, the place after what was taken, and a value of which P holds.
 pub data Gives {A : Type 0} (bytes : List ℕ) (refusal next : ℕ) (P : A → Type 0) (o : Outcome A) : Type 0 where

@@ -1,0 +1,58 @@
+use native.Mathlib.Omega.{arith}
+use Rattle.regions.proofs.arrays.charged.Statement.{statement}
+use Rattle.regions.proofs.arrays.charged.Tie as tie
+use Rattle.regions.proofs.arrays.charged.Reads as reads
+use Rattle.regions.proofs.arrays.charged.Lts as lts
+
+abbrev Inv-loop : tie.InvT-loop
+Inv-loop n price prices next₀ i₀ next i = ?
+
+abbrev μ-loop : tie.MeasureT-loop
+μ-loop n price prices next₀ i₀ next i = ?
+
+loop-holds : tie.Need-loop-holds Inv-loop μ-loop
+loop-holds c = ?
+
+mul-next : tie.Need-mul-next Inv-loop μ-loop
+mul-next c = omega arith
+
+array-read-next : tie.Need-array-read-next Inv-loop μ-loop
+array-read-next c = omega arith
+
+add-next : tie.Need-add-next Inv-loop μ-loop
+add-next c = omega arith
+
+mul-next-2 : tie.Need-mul-next-2 Inv-loop μ-loop
+mul-next-2 c = omega arith
+
+array-write-next : tie.Need-array-write-next Inv-loop μ-loop
+array-write-next c = omega arith
+
+add-i : tie.Need-add-i Inv-loop μ-loop
+add-i c = omega arith
+
+loop-less : tie.Need-loop-less Inv-loop μ-loop
+loop-less c = omega arith
+
+loop-again : tie.Need-loop-again Inv-loop μ-loop
+loop-again c = ?
+
+returns : tie.Need-returns Inv-loop μ-loop
+returns c = ?
+
+pub charged-spec : {M : Type 1} → statement M
+charged-spec =
+    tie.close
+    (tie.spec
+    Inv-loop
+    μ-loop
+    loop-holds
+    mul-next
+    array-read-next
+    add-next
+    mul-next-2
+    array-write-next
+    add-i
+    loop-less
+    loop-again
+    returns)

@@ -1,0 +1,260 @@
+// Layer 2: priced regions of one to three timers, by value.
+ghost use mathlib.Core.Path.{_≡_};
+ghost use mathlib.Core.Bool.{true, false};
+ghost use mathlib.Core.List.{_∷_, []};
+ghost use Prim.Native.Nat.{ℕ, _<_, _≤_};
+ghost use lib.ListN.{take};
+ghost use Rattle.semantics.specs.Region.{noZero, alone, start, leave, arrive, delay, linger, reset, resetAll, charge, meets, within};
+ghost use Rattle.reader.specs.Meaning.{named, conditionOf};
+ghost use Rattle.regions.specs.Held.{pack, view, Valid, PriceRoom, WholeRoom};
+
+mod arrays;
+mod compare;
+
+// A region with its corner prices. Of `whole` and `group` the first `timers` entries are used, of `prices` the first
+// `top + 1`; the others are 0. All counts are bytes: the struct has 24 bytes and is copied in the search's inner loop.
+pub struct Region {
+    pub timers: u8,
+    pub top: u8,
+    pub whole: [u8; Region::MOST_TIMERS],
+    pub group: [u8; Region::MOST_TIMERS],
+    pub prices: [u32; Region::MOST_CORNERS],
+}
+
+impl Region {
+    pub const MOST_TIMERS: usize = 3;
+
+    pub const MOST_CORNERS: usize = 4;
+
+    // The start region: all timers in r0 and the single price 0.
+    pub fn start(timers: usize) -> Region
+        requires { ⌜ timers ≤ 3 ⌝ }
+        ensures { λ r. ⌜ r ≡ pack (start timers) ⌝ }
+    {
+        Region {
+            timers: timers as u8,
+            top: 0,
+            whole: [0; Region::MOST_TIMERS],
+            group: [0; Region::MOST_TIMERS],
+            prices: [0; Region::MOST_CORNERS],
+        }
+    }
+
+    // Time passes until the region is left.
+    pub fn delay(self, rate: u32) -> Region
+        requires { ⌜ Valid self × PriceRoom rate (view self) × WholeRoom (view self) ⌝ }
+        ensures { λ r. ⌜ r ≡ pack (delay rate (view self)) ⌝ }
+    {
+        if self.no_zero() {
+            self.arrive()
+        } else {
+            self.leave(rate)
+        }
+    }
+
+    // Where no timer has fraction 0, the highest corner may be reached from the lowest one by waiting a minute.
+    pub fn linger(self, rate: u32) -> Region
+        requires { ⌜ Valid self × PriceRoom rate (view self) ⌝ }
+        ensures { λ r. ⌜ r ≡ pack (linger rate (view self)) ⌝ }
+    {
+        if self.no_zero() {
+            let whole = self.whole;
+            let group = self.group;
+            let top = self.top as usize;
+            let mut prices = self.prices;
+            prices[top] = arrays::least(prices[top], prices[0] + rate);
+            Region {
+                timers: self.timers,
+                top: self.top,
+                whole,
+                group,
+                prices,
+            }
+        } else {
+            self
+        }
+    }
+
+    // The timer is set to 0.
+    pub fn reset(self, timer: usize) -> Region
+        requires { ⌜ Valid self × (timer < 3) ⌝ }
+        ensures { λ r. ⌜ r ≡ pack (reset timer (view self)) ⌝ }
+    {
+        if self.alone(timer) {
+            self.reset_alone(timer)
+        } else {
+            self.reset_joined(timer)
+        }
+    }
+
+    // The timers that the byte names are set to 0.
+    pub fn reset_all(self, resets: u8) -> Region
+        requires { ⌜ Valid self ⌝ }
+        ensures { λ r. ⌜ r ≡ pack (resetAll (named resets (0 ∷ 1 ∷ 2 ∷ [])) (view self)) ⌝ }
+    {
+        let a = self.reset_if_named(resets, 0);
+        let b = a.reset_if_named(resets, 1);
+        b.reset_if_named(resets, 2)
+    }
+
+    // The price is added to every corner.
+    pub fn charge(self, price: u32) -> Region
+        requires { ⌜ Valid self × PriceRoom price (view self) ⌝ }
+        ensures { λ r. ⌜ r ≡ pack (charge price (view self)) ⌝ }
+    {
+        let whole = self.whole;
+        let group = self.group;
+        let old = self.prices;
+        let prices = arrays::charged(old, self.top as usize + 1, price);
+        Region {
+            timers: self.timers,
+            top: self.top,
+            whole,
+            group,
+            prices,
+        }
+    }
+
+    // Whether every point of the region meets a condition byte on the timer.
+    pub fn meets(self, timer: usize, condition: u8) -> bool
+        requires { ⌜ Valid self × (timer < 3) ⌝ }
+        ensures { λ r. ⌜ r ≡ meets (conditionOf timer condition) (view self) ⌝ }
+    {
+        let whole = self.whole;
+        let group = self.group;
+        compare::meets_at(condition / 16, condition % 16, whole[timer], group[timer])
+    }
+
+    // Whether every point of the region has each timer at or below its ceiling.
+    pub fn within(self, ceilings: [u8; Region::MOST_TIMERS]) -> bool
+        requires { ⌜ Valid self ⌝ }
+        ensures { λ r. ⌜ r ≡ within (take (self .timers) ceilings) (view self) ⌝ }
+    {
+        let n = self.timers as usize;
+        let whole = self.whole;
+        let group = self.group;
+        for t in 0..n {
+            if compare::at_most(ceilings[t], whole[t], group[t]) {} else {
+                return false;
+            }
+        }
+        true
+    }
+
+    // Whether no timer has fraction 0.
+    fn no_zero(self) -> bool
+        requires { ⌜ Valid self ⌝ }
+        ensures { λ r. ⌜ r ≡ noZero (view self) ⌝ }
+    {
+        let group = self.group;
+        arrays::count_of(group, self.timers as usize, 0) == 0
+    }
+
+    // The timers with fraction 0 leave it.
+    fn leave(self, rate: u32) -> Region
+        requires { ⌜ Valid self × PriceRoom rate (view self) × (noZero (view self) ≡ false) ⌝ }
+        ensures { λ r. ⌜ r ≡ pack (leave rate (view self)) ⌝ }
+    {
+        let whole = self.whole;
+        let old = self.group;
+        let group = arrays::raised(old, self.timers as usize);
+        let top = self.top + 1;
+        let mut prices = self.prices;
+        prices[top as usize] = prices[0] + rate;
+        Region {
+            timers: self.timers,
+            top,
+            whole,
+            group,
+            prices,
+        }
+    }
+
+    // The timers with the greatest fraction come to the next whole minute.
+    fn arrive(self) -> Region
+        requires { ⌜ Valid self × WholeRoom (view self) × (noZero (view self) ≡ true) ⌝ }
+        ensures { λ r. ⌜ r ≡ pack (arrive (view self)) ⌝ }
+    {
+        let top = self.top;
+        let old_whole = self.whole;
+        let old_group = self.group;
+        let old = self.prices;
+        let whole = arrays::all_risen(top, old_group, old_whole);
+        let group = arrays::all_wrapped(top, old_group);
+        let prices = [old[1], old[2], old[3], 0];
+        Region {
+            timers: self.timers,
+            top: top - 1,
+            whole,
+            group,
+            prices,
+        }
+    }
+
+    // Whether the timer is alone in its group, which is not r0.
+    fn alone(self, timer: usize) -> bool
+        requires { ⌜ Valid self × (timer < 3) ⌝ }
+        ensures { λ r. ⌜ r ≡ alone timer (view self .group) ⌝ }
+    {
+        let group = self.group;
+        let g = group[timer];
+        if 0 < g {
+            arrays::count_of(group, self.timers as usize, g) == 1
+        } else {
+            false
+        }
+    }
+
+    // The timer was alone in its group, which is gone: two prices become one.
+    fn reset_alone(self, timer: usize) -> Region
+        requires { ⌜ Valid self × (timer < 3) × (alone timer (view self .group) ≡ true) ⌝ }
+        ensures { λ r. ⌜ r ≡ pack (reset timer (view self)) ⌝ }
+    {
+        let old_group = self.group;
+        let old = self.prices;
+        let g = old_group[timer];
+        let mut whole = self.whole;
+        whole[timer] = 0;
+        let mut group = arrays::all_lowered(g, old_group);
+        group[timer] = 0;
+        let prices = arrays::merged(old, (self.top - g) as usize);
+        Region {
+            timers: self.timers,
+            top: self.top - 1,
+            whole,
+            group,
+            prices,
+        }
+    }
+
+    // The timer leaves others behind in its group, or was in r0.
+    fn reset_joined(self, timer: usize) -> Region
+        requires { ⌜ Valid self × (timer < 3) × (alone timer (view self .group) ≡ false) ⌝ }
+        ensures { λ r. ⌜ r ≡ pack (reset timer (view self)) ⌝ }
+    {
+        let prices = self.prices;
+        let mut whole = self.whole;
+        whole[timer] = 0;
+        let mut group = self.group;
+        group[timer] = 0;
+        Region {
+            timers: self.timers,
+            top: self.top,
+            whole,
+            group,
+            prices,
+        }
+    }
+
+    // The timer is set to 0 if the byte names it.
+    fn reset_if_named(self, resets: u8, timer: usize) -> Region
+        requires { ⌜ Valid self × (timer < 3) ⌝ }
+        ensures { λ r. ⌜ r ≡ pack (resetAll (named resets (timer ∷ [])) (view self)) ⌝ }
+    {
+        if (resets >> timer) % 2 == 1 {
+            self.reset(timer)
+        } else {
+            self
+        }
+    }
+}

@@ -2,3 +2,5 @@
 pub mod Condition
 pub mod Automaton
 pub mod Region
+-- Theorems:
+pub mod Regions

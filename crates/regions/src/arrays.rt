@@ -1,10 +1,13 @@
 // What the methods of a region do to its arrays.
 ghost use mathlib.Core.Path.{_≡_};
+ghost use mathlib.Core.Bool.{cond};
 ghost use mathlib.Core.List.{_++_, _∷_, [], map};
 ghost use Prim.Native.Nat.{ℕ, suc, _+_, _<_, _≤_, _^_, min};
-ghost use lib.ListN.{getD, take};
+ghost use lib.Dec.{eqb};
+ghost use lib.ListN.{getD, take, drop};
 ghost use Rattle.semantics.specs.Region.{count, risen, merge};
-ghost use Rattle.regions.specs.Entries.{mapTo, rise, wrap, lower};
+ghost use Rattle.semantics.specs.Regions.Renumber.{wrapped, lowered};
+ghost use Rattle.regions.specs.Arrays.{mapTo};
 
 // How many of the first n groups are g.
 pub fn count_of(group: [u8; 3], n: usize, g: u8) -> usize
@@ -57,7 +60,7 @@ pub fn all_risen(k: u8, group: [u8; 3], whole: [u8; 3]) -> [u8; 3]
 
 // The groups, where group k becomes r0.
 pub fn all_wrapped(k: u8, group: [u8; 3]) -> [u8; 3]
-    ensures { λ r. ⌜ r ≡ map (wrap k) group ⌝ }
+    ensures { λ r. ⌜ r ≡ map (wrapped k) group ⌝ }
 {
     let a = wrap(k, group[0]);
     let b = wrap(k, group[1]);
@@ -67,12 +70,22 @@ pub fn all_wrapped(k: u8, group: [u8; 3]) -> [u8; 3]
 
 // The groups, where group k is gone.
 pub fn all_lowered(k: u8, group: [u8; 3]) -> [u8; 3]
-    ensures { λ r. ⌜ r ≡ map (lower k) group ⌝ }
+    ensures { λ r. ⌜ r ≡ map (lowered k) group ⌝ }
 {
     let a = lower(k, group[0]);
     let b = lower(k, group[1]);
     let c = lower(k, group[2]);
     [a, b, c]
+}
+
+// The first price is dropped.
+pub fn shifted(prices: [u32; 4]) -> [u32; 4]
+    ensures { λ r. ⌜ r ≡ drop 1 prices ++ 0 ∷ [] ⌝ }
+{
+    let a = prices[1];
+    let b = prices[2];
+    let c = prices[3];
+    [a, b, c, 0]
 }
 
 // The prices at i and i + 1 become one, the smaller.
@@ -104,19 +117,19 @@ pub fn least(a: u32, b: u32) -> u32
 
 fn rise(k: u8, g: u8, w: u8) -> u8
     requires { ⌜ w < 255 ⌝ }
-    ensures { λ r. ⌜ r ≡ rise k g w ⌝ }
+    ensures { λ r. ⌜ r ≡ cond (eqb g k) (suc w) w ⌝ }
 {
     if g == k { w + 1 } else { w }
 }
 
 fn wrap(k: u8, g: u8) -> u8
-    ensures { λ r. ⌜ r ≡ wrap k g ⌝ }
+    ensures { λ r. ⌜ r ≡ wrapped k g ⌝ }
 {
     if g == k { 0 } else { g }
 }
 
 fn lower(k: u8, g: u8) -> u8
-    ensures { λ r. ⌜ r ≡ lower k g ⌝ }
+    ensures { λ r. ⌜ r ≡ lowered k g ⌝ }
 {
     if k < g { g - 1 } else { g }
 }

@@ -175,16 +175,17 @@ impl Region {
         requires { ⌜ Valid self × WholeRoom (view self) × (noZero (view self) ≡ true) ⌝ }
         ensures { λ r. ⌜ r ≡ pack (arrive (view self)) ⌝ }
     {
-        let top = self.top;
+        let highest = self.top;
+        let top = highest - 1;
         let old_whole = self.whole;
         let old_group = self.group;
         let old = self.prices;
-        let whole = arrays::all_risen(top, old_group, old_whole);
-        let group = arrays::all_wrapped(top, old_group);
-        let prices = [old[1], old[2], old[3], 0];
+        let whole = arrays::all_risen(highest, old_group, old_whole);
+        let group = arrays::all_wrapped(highest, old_group);
+        let prices = arrays::shifted(old);
         Region {
             timers: self.timers,
-            top: top - 1,
+            top,
             whole,
             group,
             prices,
@@ -212,15 +213,18 @@ impl Region {
     {
         let old_group = self.group;
         let old = self.prices;
+        let highest = self.top;
+        let top = highest - 1;
         let g = old_group[timer];
+        let i = highest - g;
         let mut whole = self.whole;
         whole[timer] = 0;
         let mut group = arrays::all_lowered(g, old_group);
         group[timer] = 0;
-        let prices = arrays::merged(old, (self.top - g) as usize);
+        let prices = arrays::merged(old, i as usize);
         Region {
             timers: self.timers,
-            top: self.top - 1,
+            top,
             whole,
             group,
             prices,

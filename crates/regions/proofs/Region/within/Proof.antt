@@ -1,21 +1,30 @@
+-- `regions::Region::within` meets its contract. The first t timers are at or below their ceilings.
+-- Assumes nothing.
+use mathlib.Core.Path.{_≡_, _∙_, sym}
+use mathlib.Core.Bool.{true, false}
+use Prim.Native.Nat.{ℕ, _-_, _≤_, _<_}
 use native.Mathlib.Omega.{arith}
+use borrow.Author.Needs.{needs}
+use borrow.Author.Count.{below-more}
+use lib.Dec.{leb}
+use lib.ListN.{length, getD, take}
+use Rattle.semantics.specs.Region.{high}
+use Rattle.regions.specs.Laws.Fields.{held}
+use Rattle.regions.proofs.Within.{within-all, within-some}
 use Rattle.regions.proofs.Region.within.Statement.{statement}
 use Rattle.regions.proofs.Region.within.Tie as tie
-use Rattle.regions.proofs.Region.within.Reads as reads
-use Rattle.regions.proofs.Region.within.Lts as lts
-use Rattle.regions.proofs.compare.at_most.Reads as at-most-reads
 
 abbrev Inv-loop : tie.InvT-loop
-Inv-loop ceilings n whole group t₀ t = ?
+Inv-loop ceilings n whole group t₀ t = (t ≤ n) × ((i : ℕ) → i < t → leb (high (getD whole i 0) (getD group i 0)) (getD ceilings i 0) ≡ true)
 
 abbrev μ-loop : tie.MeasureT-loop
-μ-loop ceilings n whole group t₀ t = ?
+μ-loop ceilings n whole group t₀ t = n - t
 
 cast-n : tie.Need-cast-n Inv-loop μ-loop
-cast-n c = omega arith
+cast-n c = search needs
 
 loop-holds : tie.Need-loop-holds Inv-loop μ-loop
-loop-holds c = ?
+loop-holds c = (omega arith, λ i b. absurd (omega arith))
 
 array-read-at-most : tie.Need-array-read-at-most Inv-loop μ-loop
 array-read-at-most c = omega arith
@@ -27,10 +36,15 @@ array-read-at-most-3 : tie.Need-array-read-at-most-3 Inv-loop μ-loop
 array-read-at-most-3 c = omega arith
 
 at-most-requires : tie.Need-at-most-requires Inv-loop μ-loop
-at-most-requires c κs = ?
+at-most-requires c κs = search needs
 
 returns : tie.Need-returns Inv-loop μ-loop
-returns c = ?
+returns c =
+    let start = c .before .before .before .before .before .before .before in
+    let t = c .before .before .before .loop .t in
+    let three : length (start .args .t2) ≡ 3 = search needs in
+    let b : t < start .args .self .timers = omega arith in
+    sym (within-some (start .args .self) (start .pre) (start .args .t2) three t b (sym (c .before .at-most .ensures) ∙ c .if1 .left))
 
 add-t : tie.Need-add-t Inv-loop μ-loop
 add-t c = omega arith
@@ -39,10 +53,14 @@ loop-less : tie.Need-loop-less Inv-loop μ-loop
 loop-less c = omega arith
 
 loop-again : tie.Need-loop-again Inv-loop μ-loop
-loop-again c = ?
+loop-again c = (omega arith, below-more _ _ (c .before .before .before .loop .inv .1) (sym (c .before .at-most .ensures) ∙ c .if1 .taken))
 
 returns-2 : tie.Need-returns-2 Inv-loop μ-loop
-returns-2 c = ?
+returns-2 c =
+    let start = c .before .before .before .before .before in
+    let three : length (start .args .t2) ≡ 3 = search needs in
+    let e : c .before .loop .t ≡ start .args .self .timers = omega arith in
+    sym (within-all (start .args .self) (start .pre) (start .args .t2) three (λ i b. c .before .loop .inv .1 i (rw e b)))
 
 pub within-spec : {M : Type 1} → statement M
 within-spec =

@@ -1,10 +1,13 @@
-use native.Mathlib.Omega.{arith}
+-- `regions::arrays::all_lowered` meets its contract.
+-- Assumes nothing.
+use mathlib.Core.Path.{_≡_, ap, sym}
+use mathlib.Core.List.{map}
 use borrow.Author.Needs.{needs}
+use lib.ListN.{length}
+use Rattle.semantics.specs.Regions.Renumber.{lowered}
+use Rattle.regions.proofs.Entries.{array-is}
 use Rattle.regions.proofs.arrays.all_lowered.Statement.{statement}
 use Rattle.regions.proofs.arrays.all_lowered.Tie as tie
-use Rattle.regions.proofs.arrays.all_lowered.Reads as reads
-use Rattle.regions.proofs.arrays.all_lowered.Lts as lts
-use Rattle.regions.proofs.arrays.lower.Reads as lower-reads
 
 array-read-lower : tie.Need-array-read-lower
 array-read-lower c = search needs
@@ -25,7 +28,11 @@ lower-requires-3 : tie.Need-lower-requires-3
 lower-requires-3 c κs = search needs
 
 returns : tie.Need-returns
-returns c = ?
+returns c = 
+    let args = c .before .before .before .args in
+    let g : length (args .t2) ≡ 3 = search needs in
+    rw (c .before .before .lower .ensures, c .before .lower2 .ensures, c .lower3 .ensures)
+    (sym (ap (map (lowered (args .k))) (array-is 3 (args .t2) g)))
 
 pub all-lowered-spec : {M : Type 1} → statement M
 all-lowered-spec =

@@ -1,10 +1,12 @@
+-- `regions::arrays::merged` meets its contract.
+-- Assumes nothing.
+use mathlib.Core.Path.{_≡_, sym}
 use native.Mathlib.Omega.{arith}
 use borrow.Author.Needs.{needs}
+use lib.ListN.{length}
+use Rattle.regions.proofs.Entries.{merged-is}
 use Rattle.regions.proofs.arrays.merged.Statement.{statement}
 use Rattle.regions.proofs.arrays.merged.Tie as tie
-use Rattle.regions.proofs.arrays.merged.Reads as reads
-use Rattle.regions.proofs.arrays.merged.Lts as lts
-use Rattle.regions.proofs.arrays.least.Reads as least-reads
 
 array-read-a : tie.Need-array-read-a
 array-read-a c = search needs
@@ -22,19 +24,31 @@ least-requires : tie.Need-least-requires
 least-requires c κs = search needs
 
 returns : tie.Need-returns
-returns c = ?
+returns c = 
+    let args = c .before .before .args in
+    let e : length (args .t1) ≡ 4 = search needs in
+    let p : args .i ≡ 0 = c .before .if1 .taken in
+    rw (c .least .ensures) (sym (merged-is (args .t1) (args .i) 0 e p))
 
 least-requires-2 : tie.Need-least-requires-2
 least-requires-2 c κs = search needs
 
 returns-2 : tie.Need-returns-2
-returns-2 c = ?
+returns-2 c = 
+    let args = c .before .before .before .args in
+    let e : length (args .t1) ≡ 4 = search needs in
+    let p : args .i ≡ 1 = c .before .if2 .taken in
+    rw (c .least2 .ensures) (sym (merged-is (args .t1) (args .i) 1 e p))
 
 least-requires-3 : tie.Need-least-requires-3
 least-requires-3 c κs = search needs
 
 returns-3 : tie.Need-returns-3
-returns-3 c = ?
+returns-3 c = 
+    let args = c .before .before .before .args in
+    let e : length (args .t1) ≡ 4 = search needs in
+    let p : args .i ≡ 2 = omega arith in
+    rw (c .least3 .ensures) (sym (merged-is (args .t1) (args .i) 2 e p))
 
 pub merged-spec : {M : Type 1} → statement M
 merged-spec =

@@ -1,0 +1,6 @@
+-- The laws that the functions' proofs cite.
+pub mod Turns
+pub mod Entries
+pub mod Methods
+pub mod Codes
+pub mod Within

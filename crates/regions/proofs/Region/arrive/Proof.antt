@@ -1,0 +1,41 @@
+-- `regions::Region::arrive` meets its contract.
+-- Assumes nothing.
+use borrow.Author.Needs.{needs}
+use Rattle.regions.specs.Held.{view}
+use Rattle.regions.specs.Laws.Fields.{held, whole-at, top-above}
+use Rattle.regions.proofs.Methods.{zero-none, arrived-is}
+use Rattle.regions.proofs.Region.arrive.Statement.{statement}
+use Rattle.regions.proofs.Region.arrive.Tie as tie
+
+sub-top : tie.Need-sub-top
+sub-top c = let s = c .args .self in top-above s (view s) (held s (c .pre .0)) (zero-none (view s) (c .pre .2))
+
+all-risen-requires : tie.Need-all-risen-requires
+all-risen-requires c κs =
+    let start = c .before .before .before in
+    let s = start .args .self in
+    let h = held s (start .pre .0) in
+    λ i. rw (whole-at s (view s) h i) (start .pre .1 i)
+
+all-wrapped-requires : tie.Need-all-wrapped-requires
+all-wrapped-requires c κs = search needs
+
+shifted-requires : tie.Need-shifted-requires
+shifted-requires c κs = search needs
+
+returns : tie.Need-returns
+returns c =
+    let start = c .before .before .before .before .before .before in
+    let s = start .args .self in
+    let h = held s (start .pre .0) in
+    rw (c .before .before .all-risen .ensures, c .before .all-wrapped .ensures, c .shifted .ensures) (arrived-is s (view s) h (start .pre .2))
+
+pub arrive-spec : {M : Type 1} → statement M
+arrive-spec =
+    tie.close
+    (tie.spec
+    sub-top
+    all-risen-requires
+    all-wrapped-requires
+    shifted-requires
+    returns)

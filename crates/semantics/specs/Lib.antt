@@ -2,5 +2,10 @@
 pub mod Condition
 pub mod Automaton
 pub mod Region
+pub mod Point
+pub mod Corner
+pub mod Node
 -- Theorems:
 pub mod Regions
+pub mod Corners
+pub mod Nodes

@@ -6,3 +6,6 @@ pub mod Cases
 pub mod Lengths
 pub mod Groups
 pub mod WellFormed
+pub mod Compare
+pub mod Meets
+pub mod Points

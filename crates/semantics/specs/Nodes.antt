@@ -1,0 +1,6 @@
+-- The numbers of nodes: each node has its own number below E, each number below E its node, and delay and linger lead to higher numbers.
+pub mod Radix
+pub mod Cells
+pub mod Number
+pub mod Regions
+pub mod Rising

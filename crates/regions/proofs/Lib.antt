@@ -3,4 +3,5 @@ pub mod Turns
 pub mod Entries
 pub mod Methods
 pub mod Codes
-pub mod Within
+pub mod Ceilings
+pub mod Rules

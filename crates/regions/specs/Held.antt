@@ -1,11 +1,13 @@
 -- How the struct `Region` holds a priced region, and the bounds within which its numbers do not overflow.
 -- Assumes nothing.
 use mathlib.Core.Path.{_≡_}
-use mathlib.Core.List.{List, _++_}
-use Prim.Native.Nat.{ℕ, suc, _+_, _-_, _≤_, _<_, _^_}
+use mathlib.Core.List.{List, [], _∷_, _++_}
+use Prim.Native.Nat.{ℕ, suc, _+_, _-_, _≤_, _<_, _^_, max}
 use lib.ListN.{length, getD, take, replicate}
 use Rattle.semantics.specs.Region.{PricedRegion, WellFormed, top}
+use Rattle.semantics.specs.Corner.{Corner}
 use Rattle.regions.specs.declared.Region.{Region}
+use Rattle.regions.specs.declared.CornerAt.{CornerAt}
 
 -- An array of n entries: the list, and 0 behind it.
 abbrev pub pad : ℕ → List ℕ → List ℕ
@@ -42,3 +44,12 @@ PriceRoom amount r = (i : ℕ) → getD (r .prices) i 0 + amount < 2 ^ 32
 -- Every whole part can grow by one minute within a byte.
 abbrev pub WholeRoom : PricedRegion → Type 0
 WholeRoom r = (i : ℕ) → getD (r .whole) i 0 < 255
+
+-- The greatest of some numbers.
+abbrev pub highest : List ℕ → ℕ
+highest [] = 0
+highest (g ∷ gs) = max g (highest gs)
+
+-- The struct that holds a corner. A region's highest group is that of the greatest number.
+unfoldable pub packCorner : Corner → CornerAt
+packCorner c = record { group = pad 3 (c .group); index = c .index; top = highest (c .group) }

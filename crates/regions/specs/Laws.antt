@@ -2,5 +2,5 @@
 pub mod Pads
 pub mod Fields
 pub mod Chain
-pub mod Ceilings
 pub mod Room
+pub mod Corners

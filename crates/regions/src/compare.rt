@@ -11,13 +11,7 @@ pub fn meets_at(code: u8, v: u8, w: u8, g: u8) -> bool
     match code {
         0 | 1 => w < v,
         2 => at_most(v, w, g),
-        3 => {
-            if g == 0 {
-                w == v
-            } else {
-                false
-            }
-        }
+        3 => { if g == 0 { w == v } else { false } }
         4 => v <= w,
         _ => above(v, w, g),
     }

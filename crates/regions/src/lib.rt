@@ -2,14 +2,16 @@
 ghost use mathlib.Core.Path.{_≡_};
 ghost use mathlib.Core.Bool.{true, false};
 ghost use mathlib.Core.List.{_∷_, []};
-ghost use Prim.Native.Nat.{ℕ, _<_, _≤_};
+ghost use Prim.Native.Nat.{ℕ, _<_, _≤_, max};
 ghost use lib.ListN.{take};
 ghost use Rattle.semantics.specs.Region.{noZero, alone, start, leave, arrive, delay, linger, reset, resetAll, charge, meets, within};
+ghost use Rattle.semantics.specs.Corner.{cornerCount, cornerOf, cornerNumber, cornerAt};
 ghost use Rattle.reader.specs.Meaning.{named, conditionOf};
-ghost use Rattle.regions.specs.Held.{pack, view, Valid, PriceRoom, WholeRoom};
+ghost use Rattle.regions.specs.Held.{pack, view, Valid, PriceRoom, WholeRoom, packCorner};
 
 mod arrays;
 mod compare;
+mod tables;
 
 // A region with its corner prices. Of `whole` and `group` the first `timers` entries are used, of `prices` the first
 // `top + 1`; the others are 0. All counts are bytes: the struct has 24 bytes and is copied in the search's inner loop.
@@ -19,6 +21,13 @@ pub struct Region {
     pub whole: [u8; Region::MOST_TIMERS],
     pub group: [u8; Region::MOST_TIMERS],
     pub prices: [u32; Region::MOST_CORNERS],
+}
+
+// A corner of a region: the groups of its timers, 0 past the last, the index of the corner's price, and the number of the highest group.
+pub struct CornerAt {
+    pub group: [u8; Region::MOST_TIMERS],
+    pub index: usize,
+    pub top: u8,
 }
 
 impl Region {
@@ -141,6 +150,43 @@ impl Region {
         true
     }
 
+    // How many corners a cell of so many timers has.
+    pub fn corners(timers: usize) -> usize
+        requires { ⌜ timers ≤ 3 ⌝ }
+        ensures { λ r. ⌜ r ≡ cornerCount timers 1 ⌝ }
+    {
+        wide(tables::CORNERS[timers])
+    }
+
+    // The number of the corner whose price is at the index, among the corners of the cell.
+    pub fn corner(self, index: usize) -> usize
+        requires { ⌜ Valid self × (index ≤ self .top) ⌝ }
+        ensures { λ r. ⌜ r ≡ cornerNumber (self .timers) (cornerOf (view self) index) ⌝ }
+    {
+        let n = self.timers as usize;
+        let group = self.group;
+        let row = tables::FIRST[n - 1 + group[2] as usize];
+        let first = row[4 * group[0] as usize + group[1] as usize];
+        wide(first) + index
+    }
+
+    // The corner with a number, among those of a cell of so many timers.
+    pub fn corner_at(timers: usize, number: usize) -> CornerAt
+        requires { ⌜ (1 ≤ timers) × (timers ≤ 3) × (number < cornerCount timers 1) ⌝ }
+        ensures { λ r. ⌜ r ≡ packCorner (cornerAt timers number) ⌝ }
+    {
+        let row = tables::CORNER[wide(tables::ROW[timers]) + number / 8];
+        let code = row[number % 8];
+        let a = code / 16 % 4;
+        let b = code / 4 % 4;
+        let c = code % 4;
+        CornerAt {
+            group: [a, b, c],
+            index: wide(code / 64),
+            top: greatest(a, greatest(b, c)),
+        }
+    }
+
     // Whether no timer has fraction 0.
     fn no_zero(self) -> bool
         requires { ⌜ Valid self ⌝ }
@@ -261,4 +307,16 @@ impl Region {
             self
         }
     }
+}
+
+fn wide(x: u8) -> usize
+    ensures { λ r. ⌜ (r ≡ x) × (r < 256) ⌝ }
+{
+    x as usize
+}
+
+fn greatest(a: u8, b: u8) -> u8
+    ensures { λ r. ⌜ r ≡ max a b ⌝ }
+{
+    if a < b { b } else { a }
 }

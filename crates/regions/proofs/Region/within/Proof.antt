@@ -10,7 +10,7 @@ use lib.Dec.{leb}
 use lib.ListN.{length, getD, take}
 use Rattle.semantics.specs.Region.{high}
 use Rattle.regions.specs.Laws.Fields.{held}
-use Rattle.regions.proofs.Within.{within-all, within-some}
+use Rattle.regions.proofs.Ceilings.{within-all, within-some}
 use Rattle.regions.proofs.Region.within.Statement.{statement}
 use Rattle.regions.proofs.Region.within.Tie as tie
 

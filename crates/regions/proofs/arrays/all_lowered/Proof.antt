@@ -28,7 +28,7 @@ lower-requires-3 : tie.Need-lower-requires-3
 lower-requires-3 c κs = search needs
 
 returns : tie.Need-returns
-returns c = 
+returns c =
     let args = c .before .before .before .args in
     let g : length (args .t2) ≡ 3 = search needs in
     rw (c .before .before .lower .ensures, c .before .lower2 .ensures, c .lower3 .ensures)

@@ -37,7 +37,7 @@ rise-requires-3 : tie.Need-rise-requires-3
 rise-requires-3 c κs = c .before .before .pre 2
 
 returns : tie.Need-returns
-returns c = 
+returns c =
     let args = c .before .before .before .args in
     let g : length (args .t2) ≡ 3 = search needs in
     let w : length (args .t3) ≡ 3 = search needs in

@@ -28,7 +28,7 @@ wrap-requires-3 : tie.Need-wrap-requires-3
 wrap-requires-3 c κs = search needs
 
 returns : tie.Need-returns
-returns c = 
+returns c =
     let args = c .before .before .before .args in
     let g : length (args .t2) ≡ 3 = search needs in
     rw (c .before .before .wrap .ensures, c .before .wrap2 .ensures, c .wrap3 .ensures)

@@ -41,14 +41,14 @@ loop-less : tie.Need-loop-less Inv-loop μ-loop
 loop-less c = omega arith
 
 loop-again : tie.Need-loop-again Inv-loop μ-loop
-loop-again c = 
+loop-again c =
     let i = c .before .loop .i in
     let args = c .before .before .args in
     let h : i < length (args .t1) = search needs in
     (omega arith, rw (c .before .loop .inv .1) (mapTo-more (λ p. p + args .price) i (args .t1) h))
 
 returns : tie.Need-returns Inv-loop μ-loop
-returns c = 
+returns c =
     let args = c .before .before .args in
     let e : c .before .loop .i ≡ args .n = omega arith in
     c .before .loop .inv .1 ∙ ap (λ (m : ℕ). mapTo (λ (p : ℕ). p + args .price) m (args .t1)) e

@@ -33,7 +33,7 @@ loop-less : tie.Need-loop-less Inv-loop μ-loop
 loop-less c = omega arith
 
 loop-again : tie.Need-loop-again Inv-loop μ-loop
-loop-again c = 
+loop-again c =
     let at-loop = c .before .before in
     let i = at-loop .loop .i in
     let l = at-loop .before .args .t1 in
@@ -49,7 +49,7 @@ loop-again c =
     )
 
 returns : tie.Need-returns Inv-loop μ-loop
-returns c = 
+returns c =
     let args = c .before .before .args in
     let e : c .before .loop .i ≡ args .n = omega arith in
     c .before .loop .inv .1 ∙ ap (λ (m : ℕ). count (args .g) (take m (args .t1))) e

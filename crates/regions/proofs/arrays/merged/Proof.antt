@@ -24,7 +24,7 @@ least-requires : tie.Need-least-requires
 least-requires c κs = search needs
 
 returns : tie.Need-returns
-returns c = 
+returns c =
     let args = c .before .before .args in
     let e : length (args .t1) ≡ 4 = search needs in
     let p : args .i ≡ 0 = c .before .if1 .taken in
@@ -34,7 +34,7 @@ least-requires-2 : tie.Need-least-requires-2
 least-requires-2 c κs = search needs
 
 returns-2 : tie.Need-returns-2
-returns-2 c = 
+returns-2 c =
     let args = c .before .before .before .args in
     let e : length (args .t1) ≡ 4 = search needs in
     let p : args .i ≡ 1 = c .before .if2 .taken in
@@ -44,7 +44,7 @@ least-requires-3 : tie.Need-least-requires-3
 least-requires-3 c κs = search needs
 
 returns-3 : tie.Need-returns-3
-returns-3 c = 
+returns-3 c =
     let args = c .before .before .before .args in
     let e : length (args .t1) ≡ 4 = search needs in
     let p : args .i ≡ 2 = omega arith in

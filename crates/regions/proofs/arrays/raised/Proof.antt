@@ -36,14 +36,14 @@ loop-less : tie.Need-loop-less Inv-loop μ-loop
 loop-less c = omega arith
 
 loop-again : tie.Need-loop-again Inv-loop μ-loop
-loop-again c = 
+loop-again c =
     let i = c .before .loop .i in
     let l = c .before .before .args .t1 in
     let h : i < length l = search needs in
     (omega arith, rw (c .before .loop .inv .1, add-one (getD l i 0)) (mapTo-more suc i l h))
 
 returns : tie.Need-returns Inv-loop μ-loop
-returns c = 
+returns c =
     let args = c .before .before .args in
     let e : c .before .loop .i ≡ args .n = omega arith in
     c .before .loop .inv .1 ∙ ap (λ (m : ℕ). mapTo suc m (args .t1)) e

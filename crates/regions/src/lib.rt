@@ -62,26 +62,15 @@ impl Region {
     }
 
     // Where no timer has fraction 0, the highest corner may be reached from the lowest one by waiting a minute.
-    pub fn linger(self, rate: u32) -> Region
+    pub fn linger(mut self, rate: u32) -> Region
         requires { ⌜ Valid self × PriceRoom rate (view self) ⌝ }
         ensures { λ r. ⌜ r ≡ pack (linger rate (view self)) ⌝ }
     {
         if self.no_zero() {
-            let whole = self.whole;
-            let group = self.group;
             let top = self.top as usize;
-            let mut prices = self.prices;
-            prices[top] = arrays::least(prices[top], prices[0] + rate);
-            Region {
-                timers: self.timers,
-                top: self.top,
-                whole,
-                group,
-                prices,
-            }
-        } else {
-            self
+            self.prices[top] = arrays::least(self.prices[top], self.prices[0] + rate);
         }
+        self
     }
 
     // The timer is set to 0.
@@ -107,21 +96,14 @@ impl Region {
     }
 
     // The price is added to every corner.
-    pub fn charge(self, price: u32) -> Region
+    pub fn charge(mut self, price: u32) -> Region
         requires { ⌜ Valid self × PriceRoom price (view self) ⌝ }
         ensures { λ r. ⌜ r ≡ pack (charge price (view self)) ⌝ }
     {
-        let whole = self.whole;
-        let group = self.group;
         let old = self.prices;
         let prices = arrays::charged(old, self.top as usize + 1, price);
-        Region {
-            timers: self.timers,
-            top: self.top,
-            whole,
-            group,
-            prices,
-        }
+        self.prices = prices;
+        self
     }
 
     // Whether every point of the region meets a condition byte on the timer.
@@ -163,10 +145,9 @@ impl Region {
         requires { ⌜ Valid self × (index ≤ self .top) ⌝ }
         ensures { λ r. ⌜ r ≡ cornerNumber (self .timers) (cornerOf (view self) index) ⌝ }
     {
-        let n = self.timers as usize;
         let group = self.group;
-        let row = tables::FIRST[n - 1 + group[2] as usize];
-        let first = row[4 * group[0] as usize + group[1] as usize];
+        let row = tables::FIRST[(self.timers - 1 + group[2]) as usize];
+        let first = row[(4 * group[0] + group[1]) as usize];
         wide(first) + index
     }
 
@@ -197,45 +178,36 @@ impl Region {
     }
 
     // The timers with fraction 0 leave it.
-    fn leave(self, rate: u32) -> Region
+    fn leave(mut self, rate: u32) -> Region
         requires { ⌜ Valid self × PriceRoom rate (view self) × (noZero (view self) ≡ false) ⌝ }
         ensures { λ r. ⌜ r ≡ pack (leave rate (view self)) ⌝ }
     {
-        let whole = self.whole;
+        let top = self.top + 1;
         let old = self.group;
         let group = arrays::raised(old, self.timers as usize);
-        let top = self.top + 1;
-        let mut prices = self.prices;
-        prices[top as usize] = prices[0] + rate;
-        Region {
-            timers: self.timers,
-            top,
-            whole,
-            group,
-            prices,
-        }
+        self.top = top;
+        self.group = group;
+        self.prices[top as usize] = self.prices[0] + rate;
+        self
     }
 
     // The timers with the greatest fraction come to the next whole minute.
-    fn arrive(self) -> Region
+    fn arrive(mut self) -> Region
         requires { ⌜ Valid self × WholeRoom (view self) × (noZero (view self) ≡ true) ⌝ }
         ensures { λ r. ⌜ r ≡ pack (arrive (view self)) ⌝ }
     {
-        let highest = self.top;
-        let top = highest - 1;
+        let top = self.top;
         let old_whole = self.whole;
         let old_group = self.group;
-        let old = self.prices;
-        let whole = arrays::all_risen(highest, old_group, old_whole);
-        let group = arrays::all_wrapped(highest, old_group);
-        let prices = arrays::shifted(old);
-        Region {
-            timers: self.timers,
-            top,
-            whole,
-            group,
-            prices,
-        }
+        let old_prices = self.prices;
+        let whole = arrays::all_risen(top, old_group, old_whole);
+        let group = arrays::all_wrapped(top, old_group);
+        let prices = arrays::shifted(old_prices);
+        self.top = top - 1;
+        self.whole = whole;
+        self.group = group;
+        self.prices = prices;
+        self
     }
 
     // Whether the timer is alone in its group, which is not r0.
@@ -253,47 +225,32 @@ impl Region {
     }
 
     // The timer was alone in its group, which is gone: two prices become one.
-    fn reset_alone(self, timer: usize) -> Region
+    fn reset_alone(mut self, timer: usize) -> Region
         requires { ⌜ Valid self × (timer < 3) × (alone timer (view self .group) ≡ true) ⌝ }
         ensures { λ r. ⌜ r ≡ pack (reset timer (view self)) ⌝ }
     {
+        let top = self.top;
         let old_group = self.group;
-        let old = self.prices;
-        let highest = self.top;
-        let top = highest - 1;
+        let old_prices = self.prices;
         let g = old_group[timer];
-        let i = highest - g;
-        let mut whole = self.whole;
-        whole[timer] = 0;
-        let mut group = arrays::all_lowered(g, old_group);
-        group[timer] = 0;
-        let prices = arrays::merged(old, i as usize);
-        Region {
-            timers: self.timers,
-            top,
-            whole,
-            group,
-            prices,
-        }
+        let group = arrays::all_lowered(g, old_group);
+        let prices = arrays::merged(old_prices, (top - g) as usize);
+        self.top = top - 1;
+        self.whole[timer] = 0;
+        self.group = group;
+        self.group[timer] = 0;
+        self.prices = prices;
+        self
     }
 
     // The timer leaves others behind in its group, or was in r0.
-    fn reset_joined(self, timer: usize) -> Region
+    fn reset_joined(mut self, timer: usize) -> Region
         requires { ⌜ Valid self × (timer < 3) × (alone timer (view self .group) ≡ false) ⌝ }
         ensures { λ r. ⌜ r ≡ pack (reset timer (view self)) ⌝ }
     {
-        let prices = self.prices;
-        let mut whole = self.whole;
-        whole[timer] = 0;
-        let mut group = self.group;
-        group[timer] = 0;
-        Region {
-            timers: self.timers,
-            top: self.top,
-            whole,
-            group,
-            prices,
-        }
+        self.whole[timer] = 0;
+        self.group[timer] = 0;
+        self
     }
 
     // The timer is set to 0 if the byte names it.

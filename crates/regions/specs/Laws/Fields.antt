@@ -80,3 +80,6 @@ module _ (s : Region) (r : PricedRegion) (h : Holds s r) where
   -- No group's number is above the highest one's.
   pub group-top : (i : ℕ) → getD (s .group) i 0 ≤ s .top
   group-top i = omega (arith, group-at i, price-count, h .wellFormed .below i)
+
+  pub group-few : (i : ℕ) → getD (s .group) i 0 ≤ 3
+  group-few i = omega (arith, group-top i, top-few)

@@ -7,9 +7,6 @@ use Rattle.regions.proofs.Methods.{zero-none, arrived-is}
 use Rattle.regions.proofs.Region.arrive.Statement.{statement}
 use Rattle.regions.proofs.Region.arrive.Tie as tie
 
-sub-top : tie.Need-sub-top
-sub-top c = let s = c .args .self in top-above s (view s) (held s (c .pre .0)) (zero-none (view s) (c .pre .2))
-
 all-risen-requires : tie.Need-all-risen-requires
 all-risen-requires c κs =
     let start = c .before .before .before in
@@ -23,6 +20,13 @@ all-wrapped-requires c κs = search needs
 shifted-requires : tie.Need-shifted-requires
 shifted-requires c κs = search needs
 
+sub-self : tie.Need-sub-self
+sub-self c =
+    let start = c .before .before .before .before .before .before in
+    let s = start .args .self in
+    let h = held s (start .pre .0) in
+    top-above s (view s) h (zero-none (view s) (start .pre .2))
+
 returns : tie.Need-returns
 returns c =
     let start = c .before .before .before .before .before .before in
@@ -34,8 +38,8 @@ pub arrive-spec : {M : Type 1} → statement M
 arrive-spec =
     tie.close
     (tie.spec
-    sub-top
     all-risen-requires
     all-wrapped-requires
     shifted-requires
+    sub-self
     returns)

@@ -16,14 +16,14 @@ add-charged c = search needs
 
 charged-requires : tie.Need-charged-requires
 charged-requires c κs =
-    let start = c .before .before .before .before in
+    let start = c .before .before in
     let s = start .args .self in
     let h = held s (start .pre .0) in
     (omega (arith, top-few s (view s) h), λ i. rw (price-at s (view s) h i) (start .pre .1 i))
 
 returns : tie.Need-returns
 returns c =
-    let start = c .before .before .before .before .before in
+    let start = c .before .before .before in
     let s = start .args .self in
     let h = held s (start .pre .0) in
     rw (c .charged .ensures) (charged-is s (view s) h (start .args .price))

@@ -3,87 +3,82 @@
 use native.Mathlib.Omega.{arith}
 use borrow.Author.Needs.{needs}
 use Rattle.regions.specs.Held.{view}
-use Rattle.regions.specs.Laws.Fields.{held, timers-is, top-few, group-top}
+use Rattle.regions.specs.Laws.Fields.{held, timers-is, top-few, group-few}
 use Rattle.regions.proofs.Rules.{number-is}
 use Rattle.regions.proofs.Region.corner.Statement.{statement}
 use Rattle.regions.proofs.Region.corner.Tie as tie
-
-cast-n : tie.Need-cast-n
-cast-n c = search needs
 
 sub-row : tie.Need-sub-row
 sub-row c =
     let start = c .before .before in
     let s = start .args .self in
     let h = held s (start .pre .0) in
-    let k = top-few s (view s) h in
     omega (arith, timers-is s (view s) h, start .pre .0 .wellFormed .some)
 
 array-read-row : tie.Need-array-read-row
 array-read-row c = search needs
-
-cast-row : tie.Need-cast-row
-cast-row c = search needs
 
 add-row : tie.Need-add-row
 add-row c =
     let start = c .before .before in
     let s = start .args .self in
     let h = held s (start .pre .0) in
-    let k = top-few s (view s) h in
-    omega (arith, start .pre .0 .few, group-top s (view s) h 2)
+    omega (arith, start .pre .0 .few, group-few s (view s) h 2)
+
+cast-row : tie.Need-cast-row
+cast-row c =
+    let start = c .before .before in
+    let s = start .args .self in
+    let h = held s (start .pre .0) in
+    omega (arith, start .pre .0 .few, group-few s (view s) h 2)
 
 mul-row : tie.Need-mul-row
 mul-row c =
     let start = c .before .before in
     let s = start .args .self in
     let h = held s (start .pre .0) in
-    let k = top-few s (view s) h in
-    omega (arith, start .pre .0 .few, group-top s (view s) h 2)
+    omega (arith, start .pre .0 .few, group-few s (view s) h 2)
 
 array-copy-out-row : tie.Need-array-copy-out-row
 array-copy-out-row c =
     let start = c .before .before in
     let s = start .args .self in
     let h = held s (start .pre .0) in
-    let k = top-few s (view s) h in
-    omega (arith, start .pre .0 .few, group-top s (view s) h 2)
+    omega (arith, start .pre .0 .few, group-few s (view s) h 2)
 
 array-read-first : tie.Need-array-read-first
 array-read-first c = search needs
-
-cast-first : tie.Need-cast-first
-cast-first c = search needs
 
 mul-first : tie.Need-mul-first
 mul-first c =
     let start = c .before .before .before in
     let s = start .args .self in
     let h = held s (start .pre .0) in
-    let k = top-few s (view s) h in
-    omega (arith, group-top s (view s) h 0)
+    omega (arith, group-few s (view s) h 0)
 
 array-read-first-2 : tie.Need-array-read-first-2
 array-read-first-2 c = search needs
-
-cast-first-2 : tie.Need-cast-first-2
-cast-first-2 c = search needs
 
 add-first : tie.Need-add-first
 add-first c =
     let start = c .before .before .before in
     let s = start .args .self in
     let h = held s (start .pre .0) in
-    let k = top-few s (view s) h in
-    omega (arith, group-top s (view s) h 0, group-top s (view s) h 1)
+    omega (arith, group-few s (view s) h 0, group-few s (view s) h 1)
+
+cast-first : tie.Need-cast-first
+cast-first c =
+    let start = c .before .before .before in
+    let s = start .args .self in
+    let h = held s (start .pre .0) in
+    omega (arith, group-few s (view s) h 0, group-few s (view s) h 1)
 
 array-read-first-3 : tie.Need-array-read-first-3
 array-read-first-3 c =
     let start = c .before .before .before in
     let s = start .args .self in
     let h = held s (start .pre .0) in
-    let k = top-few s (view s) h in
-    omega (arith, group-top s (view s) h 0, group-top s (view s) h 1)
+    omega (arith, group-few s (view s) h 0, group-few s (view s) h 1)
 
 wide-requires : tie.Need-wide-requires
 wide-requires c κs = search needs
@@ -93,32 +88,30 @@ add-result c =
     let start = c .before .before .before .before in
     let s = start .args .self in
     let h = held s (start .pre .0) in
-    let k = top-few s (view s) h in
-    omega (arith, start .pre .1, c .wide .ensures .1)
+    omega (arith, top-few s (view s) h, start .pre .1, c .wide .ensures .1)
 
 returns : tie.Need-returns
 returns c =
     let start = c .before .before .before .before in
     let s = start .args .self in
-    rw (c .wide .ensures .0) (number-is s (view s) (held s (start .pre .0)) (start .args .index) (start .pre .1))
+    let h = held s (start .pre .0) in
+    rw (c .wide .ensures .0) (number-is s (view s) h (start .args .index) (start .pre .1))
 
 pub corner-spec : {M : Type 1} → statement M
 corner-spec =
     tie.close
     (tie.spec
-    cast-n
     sub-row
     array-read-row
-    cast-row
     add-row
+    cast-row
     mul-row
     array-copy-out-row
     array-read-first
-    cast-first
     mul-first
     array-read-first-2
-    cast-first-2
     add-first
+    cast-first
     array-read-first-3
     wide-requires
     add-result

@@ -18,48 +18,48 @@ cast-top c = search needs
 mul-least : tie.Need-mul-least
 mul-least c = search needs
 
-array-read-least : tie.Need-array-read-least
-array-read-least c =
-    let start = c .before .before .before .before .before .before in
-    let s = start .args .self in
+element-copy-out-least : tie.Need-element-copy-out-least
+element-copy-out-least c =
+    let start = c .before .before in
+    let s = start .args .t1 in
     let h = held s (start .pre .0) in
     omega (arith, top-few s (view s) h)
 
-array-read-least-2 : tie.Need-array-read-least-2
-array-read-least-2 c = search needs
+element-copy-out-least-2 : tie.Need-element-copy-out-least-2
+element-copy-out-least-2 c = search needs
 
 add-least : tie.Need-add-least
 add-least c =
-    let start = c .before .before .before .before .before .before in
-    let s = start .args .self in
+    let start = c .before .before .before .before in
+    let s = start .args .t1 in
     let h = held s (start .pre .0) in
     omega (arith, price-at s (view s) h 0, start .pre .1 0)
 
 least-requires : tie.Need-least-requires
 least-requires c κs = search needs
 
-mul-prices : tie.Need-mul-prices
-mul-prices c = search needs
+mul-self : tie.Need-mul-self
+mul-self c = search needs
 
-array-write-prices : tie.Need-array-write-prices
-array-write-prices c =
-    let start = c .before .before .before .before .before .before .before in
-    let s = start .args .self in
+element-write-self : tie.Need-element-write-self
+element-write-self c =
+    let start = c .before .before .before .before .before in
+    let s = start .args .t1 in
     let h = held s (start .pre .0) in
     omega (arith, top-few s (view s) h)
 
 returns : tie.Need-returns
 returns c =
-    let start = c .before .before .before .before .before .before .before in
-    let s = start .args .self in
+    let start = c .before .before .before .before .before in
+    let s = start .args .t1 in
     let h = held s (start .pre .0) in
-    let then = c .before .before .before .before .before in
+    let then = c .before .before .before in
     rw (c .least .ensures) (lingered-is s (view s) h (start .args .rate) (sym (then .before .no-zero .ensures) ∙ then .if1 .taken))
 
 returns-2 : tie.Need-returns-2
 returns-2 c =
     let start = c .before .before in
-    let s = start .args .self in
+    let s = start .args .t1 in
     let h = held s (start .pre .0) in
     unlingered-is s (view s) h (start .args .rate) (sym (c .before .no-zero .ensures) ∙ c .if1 .left)
 
@@ -70,11 +70,11 @@ linger-spec =
     no-zero-requires
     cast-top
     mul-least
-    array-read-least
-    array-read-least-2
+    element-copy-out-least
+    element-copy-out-least-2
     add-least
     least-requires
-    mul-prices
-    array-write-prices
+    mul-self
+    element-write-self
     returns
     returns-2)

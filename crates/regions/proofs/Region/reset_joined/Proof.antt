@@ -7,18 +7,14 @@ use Rattle.regions.proofs.Methods.{reset-joined-is}
 use Rattle.regions.proofs.Region.reset_joined.Statement.{statement}
 use Rattle.regions.proofs.Region.reset_joined.Tie as tie
 
-array-write-whole : tie.Need-array-write-whole
-array-write-whole c = search needs
+element-write-self : tie.Need-element-write-self
+element-write-self c = search needs
 
-array-write-group : tie.Need-array-write-group
-array-write-group c = search needs
+element-write-self-2 : tie.Need-element-write-self-2
+element-write-self-2 c = search needs
 
 returns : tie.Need-returns
-returns c =
-    let start = c .before .before .before in
-    let s = start .args .self in
-    let h = held s (start .pre .0) in
-    reset-joined-is s (view s) h (start .args .timer) (start .pre .2)
+returns c = let s = c .args .t1 in reset-joined-is s (view s) (held s (c .pre .0)) (c .args .timer) (c .pre .2)
 
 pub reset-joined-spec : {M : Type 1} → statement M
-reset-joined-spec = tie.close (tie.spec array-write-whole array-write-group returns)
+reset-joined-spec = tie.close (tie.spec element-write-self element-write-self-2 returns)

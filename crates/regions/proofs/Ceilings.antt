@@ -17,7 +17,7 @@ use Rattle.regions.specs.Held.{view, Valid}
 use Rattle.regions.specs.Laws.Fields.{held, whole-at, group-at}
 
 -- The test of one ceiling.
-abbrev low : List ℕ → List ℕ → ℕ → ℕ → Bool
+abbrev pub low : List ℕ → List ℕ → ℕ → ℕ → Bool
 low ws gs x ceiling = leb (high (getD ws x 0) (getD gs x 0)) ceiling
 
 -- A region is within its ceilings exactly if the test of each holds.
@@ -31,9 +31,10 @@ module _ (r : PricedRegion) where
   within-from x (c ∷ cs) =
       let both = and-true-iff (low (r .whole) (r .group) x c) (withinFrom (suc x) cs r) in
       let rest = within-from (suc x) cs in
-      let next : (i : ℕ) → suc x + i ≡ x + suc i = λ i. suc-add x i ∙ sym (add-suc x i) in
-      (λ e. split (both .0 e .0) (λ i b. subst (λ (y : ℕ). at-low y (getD cs i 0)) (next i) (rest .0 (both .0 e .1) i b)),
-      λ h. both .1 (subst (λ (y : ℕ). at-low y c) (add-zero x) (h 0 (omega arith)), rest .1 (λ i b. subst (λ (y : ℕ). at-low y (getD cs i 0)) (sym (next i)) (h (suc i) (omega arith)))))
+      let next : (i : ℕ) → suc x + i ≡ x + suc i = λ i. suc-add x i ∙ sym (add-suc x i) in (
+        λ e. split (both .0 e .0) (λ i b. subst (λ (y : ℕ). at-low y (getD cs i 0)) (next i) (rest .0 (both .0 e .1) i b)),
+        λ h. both .1 (subst (λ (y : ℕ). at-low y c) (add-zero x) (h 0 (omega arith)), rest .1 (λ i b. subst (λ (y : ℕ). at-low y (getD cs i 0)) (sym (next i)) (h (suc i) (omega arith)))),
+      )
     where
       split : at-low x c → ((i : ℕ) → i < length cs → at-low (x + suc i) (getD cs i 0)) → (i : ℕ) → i < suc (length cs) → at-low (x + i) (getD (c ∷ cs) i 0)
       split a h zero b = subst (λ (y : ℕ). at-low y c) (sym (add-zero x)) a

@@ -9,6 +9,13 @@ use Rattle.semantics.specs.Corner.{Corner}
 use Rattle.regions.specs.declared.Region.{Region}
 use Rattle.regions.specs.declared.CornerAt.{CornerAt}
 
+-- The struct's associated constants.
+abbrev pub mostTimers : ℕ
+mostTimers = 3
+
+abbrev pub mostCorners : ℕ
+mostCorners = 4
+
 -- An array of n entries: the list, and 0 behind it.
 abbrev pub pad : ℕ → List ℕ → List ℕ
 pad n l = l ++ replicate (n - length l) 0
@@ -18,9 +25,9 @@ unfoldable pub pack : PricedRegion → Region
 pack r = record {
   timers = length (r .whole);
   top = top r;
-  whole = pad 3 (r .whole);
-  group = pad 3 (r .group);
-  prices = pad 4 (r .prices);
+  whole = pad mostTimers (r .whole);
+  group = pad mostTimers (r .group);
+  prices = pad mostCorners (r .prices);
 }
 
 -- The priced region that a struct holds.
@@ -33,7 +40,7 @@ view s = record {
 
 -- The struct holds a region of one to three timers, and 0 in the entries that are not used.
 pub record Valid (s : Region) : Type 0 where
-  pub few : s .timers ≤ 3
+  pub few : s .timers ≤ mostTimers
   pub held : s ≡ pack (view s)
   pub wellFormed : WellFormed (view s)
 
@@ -52,4 +59,4 @@ highest (g ∷ gs) = max g (highest gs)
 
 -- The struct that holds a corner. A region's highest group is that of the greatest number.
 unfoldable pub packCorner : Corner → CornerAt
-packCorner c = record { group = pad 3 (c .group); index = c .index; top = highest (c .group) }
+packCorner c = record { group = pad mostTimers (c .group); index = c .index; top = highest (c .group) }

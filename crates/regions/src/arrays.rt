@@ -8,10 +8,12 @@ ghost use lib.ListN.{getD, take, drop};
 ghost use Rattle.semantics.specs.Region.{count, risen, merge};
 ghost use Rattle.semantics.specs.Regions.Renumber.{wrapped, lowered};
 ghost use Rattle.regions.specs.Arrays.{mapTo};
+ghost use Rattle.regions.specs.Held.{mostTimers, mostCorners};
+use crate::Region;
 
 // How many of the first n groups are g.
-pub fn count_of(group: [u8; 3], n: usize, g: u8) -> usize
-    requires { ⌜ n ≤ 3 ⌝ }
+pub fn count_of(group: [u8; Region::MOST_TIMERS], n: usize, g: u8) -> usize
+    requires { ⌜ n ≤ mostTimers ⌝ }
     ensures { λ r. ⌜ r ≡ count g (take n group) ⌝ }
 {
     let mut found: usize = 0;
@@ -24,8 +26,8 @@ pub fn count_of(group: [u8; 3], n: usize, g: u8) -> usize
 }
 
 // Each of the first n groups is one higher.
-pub fn raised(group: [u8; 3], n: usize) -> [u8; 3]
-    requires { ⌜ (n ≤ 3) × ((i : ℕ) → getD group i 0 < 255) ⌝ }
+pub fn raised(group: [u8; Region::MOST_TIMERS], n: usize) -> [u8; Region::MOST_TIMERS]
+    requires { ⌜ (n ≤ mostTimers) × ((i : ℕ) → getD group i 0 < 255) ⌝ }
     ensures { λ r. ⌜ r ≡ mapTo suc n group ⌝ }
 {
     let mut next = group;
@@ -36,8 +38,12 @@ pub fn raised(group: [u8; 3], n: usize) -> [u8; 3]
 }
 
 // Each of the first n prices is greater by price.
-pub fn charged(prices: [u32; 4], n: usize, price: u32) -> [u32; 4]
-    requires { ⌜ (n ≤ 4) × ((i : ℕ) → getD prices i 0 + price < 2 ^ 32) ⌝ }
+pub fn charged(
+    prices: [u32; Region::MOST_CORNERS],
+    n: usize,
+    price: u32,
+) -> [u32; Region::MOST_CORNERS]
+    requires { ⌜ (n ≤ mostCorners) × ((i : ℕ) → getD prices i 0 + price < 2 ^ 32) ⌝ }
     ensures { λ r. ⌜ r ≡ mapTo (λ c. c + price) n prices ⌝ }
 {
     let mut next = prices;
@@ -48,7 +54,11 @@ pub fn charged(prices: [u32; 4], n: usize, price: u32) -> [u32; 4]
 }
 
 // The whole parts, those of group k one higher.
-pub fn all_risen(k: u8, group: [u8; 3], whole: [u8; 3]) -> [u8; 3]
+pub fn all_risen(
+    k: u8,
+    group: [u8; Region::MOST_TIMERS],
+    whole: [u8; Region::MOST_TIMERS],
+) -> [u8; Region::MOST_TIMERS]
     requires { ⌜ ((i : ℕ) → getD whole i 0 < 255) ⌝ }
     ensures { λ r. ⌜ r ≡ risen k group whole ⌝ }
 {
@@ -59,7 +69,7 @@ pub fn all_risen(k: u8, group: [u8; 3], whole: [u8; 3]) -> [u8; 3]
 }
 
 // The groups, where group k becomes r0.
-pub fn all_wrapped(k: u8, group: [u8; 3]) -> [u8; 3]
+pub fn all_wrapped(k: u8, group: [u8; Region::MOST_TIMERS]) -> [u8; Region::MOST_TIMERS]
     ensures { λ r. ⌜ r ≡ map (wrapped k) group ⌝ }
 {
     let a = wrap(k, group[0]);
@@ -69,7 +79,7 @@ pub fn all_wrapped(k: u8, group: [u8; 3]) -> [u8; 3]
 }
 
 // The groups, where group k is gone.
-pub fn all_lowered(k: u8, group: [u8; 3]) -> [u8; 3]
+pub fn all_lowered(k: u8, group: [u8; Region::MOST_TIMERS]) -> [u8; Region::MOST_TIMERS]
     ensures { λ r. ⌜ r ≡ map (lowered k) group ⌝ }
 {
     let a = lower(k, group[0]);
@@ -79,7 +89,7 @@ pub fn all_lowered(k: u8, group: [u8; 3]) -> [u8; 3]
 }
 
 // The first price is dropped.
-pub fn shifted(prices: [u32; 4]) -> [u32; 4]
+pub fn shifted(prices: [u32; Region::MOST_CORNERS]) -> [u32; Region::MOST_CORNERS]
     ensures { λ r. ⌜ r ≡ drop 1 prices ++ 0 ∷ [] ⌝ }
 {
     let a = prices[1];
@@ -89,7 +99,7 @@ pub fn shifted(prices: [u32; 4]) -> [u32; 4]
 }
 
 // The prices at i and i + 1 become one, the smaller.
-pub fn merged(prices: [u32; 4], i: usize) -> [u32; 4]
+pub fn merged(prices: [u32; Region::MOST_CORNERS], i: usize) -> [u32; Region::MOST_CORNERS]
     requires { ⌜ i < 3 ⌝ }
     ensures { λ r. ⌜ r ≡ merge i prices ++ 0 ∷ [] ⌝ }
 {

@@ -1,4 +1,4 @@
-// Whether all values with whole part w and a fraction of group g compare so with v.
+// How the values of a timer compare with a whole number v: all values with whole part w and a fraction of group g at once.
 ghost use mathlib.Core.Path.{_≡_};
 ghost use lib.Dec.{leb, ltb};
 ghost use Rattle.semantics.specs.Region.{high, meetsAt};

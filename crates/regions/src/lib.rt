@@ -1,4 +1,4 @@
-// Layer 2: priced regions of one to three timers, by value.
+// Layer 2: priced regions of one to three timers, by value, and the corners of a cell by their numbers.
 ghost use mathlib.Core.Path.{_≡_};
 ghost use mathlib.Core.Bool.{true, false};
 ghost use mathlib.Core.List.{_∷_, []};
@@ -7,14 +7,14 @@ ghost use lib.ListN.{take};
 ghost use Rattle.semantics.specs.Region.{noZero, alone, start, leave, arrive, delay, linger, reset, resetAll, charge, meets, within};
 ghost use Rattle.semantics.specs.Corner.{cornerCount, cornerOf, cornerNumber, cornerAt};
 ghost use Rattle.reader.specs.Meaning.{named, conditionOf};
-ghost use Rattle.regions.specs.Held.{pack, view, Valid, PriceRoom, WholeRoom, packCorner};
+ghost use Rattle.regions.specs.Held.{mostTimers, pack, view, Valid, PriceRoom, WholeRoom, packCorner};
 
 mod arrays;
 mod compare;
 mod tables;
 
-// A region with its corner prices. Of `whole` and `group` the first `timers` entries are used, of `prices` the first
-// `top + 1`; the others are 0. All counts are bytes: the struct has 24 bytes and is copied in the search's inner loop.
+// A region with its corner prices: of each timer its whole part and the number of its group, and the prices c0 to c(top). Of `whole` and
+// `group` the first `timers` entries are used, of `prices` the first `top + 1`; the others are 0. The struct has 24 bytes.
 pub struct Region {
     pub timers: u8,
     pub top: u8,
@@ -23,7 +23,7 @@ pub struct Region {
     pub prices: [u32; Region::MOST_CORNERS],
 }
 
-// A corner of a region: the groups of its timers, 0 past the last, the index of the corner's price, and the number of the highest group.
+// A corner of a cell: the groups of its region, 0 past the last timer, the index of its price, and the number of the region's highest group.
 pub struct CornerAt {
     pub group: [u8; Region::MOST_TIMERS],
     pub index: usize,
@@ -35,9 +35,9 @@ impl Region {
 
     pub const MOST_CORNERS: usize = 4;
 
-    // The start region: all timers in r0 and the single price 0.
+    // "The start region has all timers in r0 and the single price 0."
     pub fn start(timers: usize) -> Region
-        requires { ⌜ timers ≤ 3 ⌝ }
+        requires { ⌜ timers ≤ mostTimers ⌝ }
         ensures { λ r. ⌜ r ≡ pack (start timers) ⌝ }
     {
         Region {
@@ -61,7 +61,7 @@ impl Region {
         }
     }
 
-    // Where no timer has fraction 0, the highest corner may be reached from the lowest one by waiting a minute.
+    // "Linger, r0 empty: ck becomes the smaller of ck and c0 + rate. Otherwise nothing changes."
     pub fn linger(mut self, rate: u32) -> Region
         requires { ⌜ Valid self × PriceRoom rate (view self) ⌝ }
         ensures { λ r. ⌜ r ≡ pack (linger rate (view self)) ⌝ }
@@ -73,9 +73,9 @@ impl Region {
         self
     }
 
-    // The timer is set to 0.
+    // "Reset of one timer: its whole part becomes 0 and it joins r0." A timer that the region does not have changes nothing.
     pub fn reset(self, timer: usize) -> Region
-        requires { ⌜ Valid self × (timer < 3) ⌝ }
+        requires { ⌜ Valid self × (timer < mostTimers) ⌝ }
         ensures { λ r. ⌜ r ≡ pack (reset timer (view self)) ⌝ }
     {
         if self.alone(timer) {
@@ -85,7 +85,7 @@ impl Region {
         }
     }
 
-    // The timers that the byte names are set to 0.
+    // The timers that a reset byte names are reset.
     pub fn reset_all(self, resets: u8) -> Region
         requires { ⌜ Valid self ⌝ }
         ensures { λ r. ⌜ r ≡ pack (resetAll (named resets (0 ∷ 1 ∷ 2 ∷ [])) (view self)) ⌝ }
@@ -95,7 +95,7 @@ impl Region {
         b.reset_if_named(resets, 2)
     }
 
-    // The price is added to every corner.
+    // "Charge: the move's price is added to every corner."
     pub fn charge(mut self, price: u32) -> Region
         requires { ⌜ Valid self × PriceRoom price (view self) ⌝ }
         ensures { λ r. ⌜ r ≡ pack (charge price (view self)) ⌝ }
@@ -106,9 +106,9 @@ impl Region {
         self
     }
 
-    // Whether every point of the region meets a condition byte on the timer.
+    // Whether all points of the region meet a condition byte on the timer: "its corners need not".
     pub fn meets(self, timer: usize, condition: u8) -> bool
-        requires { ⌜ Valid self × (timer < 3) ⌝ }
+        requires { ⌜ Valid self × (timer < mostTimers) ⌝ }
         ensures { λ r. ⌜ r ≡ meets (conditionOf timer condition) (view self) ⌝ }
     {
         let whole = self.whole;
@@ -116,7 +116,7 @@ impl Region {
         compare::meets_at(condition / 16, condition % 16, whole[timer], group[timer])
     }
 
-    // Whether every point of the region has each timer at or below its ceiling.
+    // Whether all points of the region have each timer at or below its ceiling. Ceilings past the last timer play no part.
     pub fn within(self, ceilings: [u8; Region::MOST_TIMERS]) -> bool
         requires { ⌜ Valid self ⌝ }
         ensures { λ r. ⌜ r ≡ within (take (self .timers) ceilings) (view self) ⌝ }
@@ -124,23 +124,23 @@ impl Region {
         let n = self.timers as usize;
         let whole = self.whole;
         let group = self.group;
-        for t in 0..n {
-            if compare::at_most(ceilings[t], whole[t], group[t]) {} else {
+        for timer in 0..n {
+            if !compare::at_most(ceilings[timer], whole[timer], group[timer]) {
                 return false;
             }
         }
         true
     }
 
-    // How many corners a cell of so many timers has.
+    // "The corners of a cell number 3, 13 or 75 for one, two or three timers."
     pub fn corners(timers: usize) -> usize
-        requires { ⌜ timers ≤ 3 ⌝ }
+        requires { ⌜ timers ≤ mostTimers ⌝ }
         ensures { λ r. ⌜ r ≡ cornerCount timers 1 ⌝ }
     {
         wide(tables::CORNERS[timers])
     }
 
-    // The number of the corner whose price is at the index, among the corners of the cell.
+    // The number, among the corners of the cell, of the corner whose price has the index.
     pub fn corner(self, index: usize) -> usize
         requires { ⌜ Valid self × (index ≤ self .top) ⌝ }
         ensures { λ r. ⌜ r ≡ cornerNumber (self .timers) (cornerOf (view self) index) ⌝ }
@@ -151,9 +151,9 @@ impl Region {
         wide(first) + index
     }
 
-    // The corner with a number, among those of a cell of so many timers.
+    // The corner with a number, among the corners of a cell.
     pub fn corner_at(timers: usize, number: usize) -> CornerAt
-        requires { ⌜ (1 ≤ timers) × (timers ≤ 3) × (number < cornerCount timers 1) ⌝ }
+        requires { ⌜ (0 < timers) × (timers ≤ mostTimers) × (number < cornerCount timers 1) ⌝ }
         ensures { λ r. ⌜ r ≡ packCorner (cornerAt timers number) ⌝ }
     {
         let row = tables::CORNER[wide(tables::ROW[timers]) + number / 8];
@@ -168,7 +168,7 @@ impl Region {
         }
     }
 
-    // Whether no timer has fraction 0.
+    // Whether r0 is empty.
     fn no_zero(self) -> bool
         requires { ⌜ Valid self ⌝ }
         ensures { λ r. ⌜ r ≡ noZero (view self) ⌝ }
@@ -177,7 +177,7 @@ impl Region {
         arrays::count_of(group, self.timers as usize, 0) == 0
     }
 
-    // The timers with fraction 0 leave it.
+    // "Delay, r0 not empty: every group moves up one place, r0 is empty, and c0 + rate is added at the end."
     fn leave(mut self, rate: u32) -> Region
         requires { ⌜ Valid self × PriceRoom rate (view self) × (noZero (view self) ≡ false) ⌝ }
         ensures { λ r. ⌜ r ≡ pack (leave rate (view self)) ⌝ }
@@ -191,7 +191,7 @@ impl Region {
         self
     }
 
-    // The timers with the greatest fraction come to the next whole minute.
+    // "Delay, r0 empty: rk becomes r0, its whole parts rise by 1, c0 is dropped."
     fn arrive(mut self) -> Region
         requires { ⌜ Valid self × WholeRoom (view self) × (noZero (view self) ≡ true) ⌝ }
         ensures { λ r. ⌜ r ≡ pack (arrive (view self)) ⌝ }
@@ -212,7 +212,7 @@ impl Region {
 
     // Whether the timer is alone in its group, which is not r0.
     fn alone(self, timer: usize) -> bool
-        requires { ⌜ Valid self × (timer < 3) ⌝ }
+        requires { ⌜ Valid self × (timer < mostTimers) ⌝ }
         ensures { λ r. ⌜ r ≡ alone timer (view self .group) ⌝ }
     {
         let group = self.group;
@@ -224,9 +224,9 @@ impl Region {
         }
     }
 
-    // The timer was alone in its group, which is gone: two prices become one.
+    // "If it was alone in ri, i at least 1, the prices c(k-i) and c(k-i+1) become one, the smaller."
     fn reset_alone(mut self, timer: usize) -> Region
-        requires { ⌜ Valid self × (timer < 3) × (alone timer (view self .group) ≡ true) ⌝ }
+        requires { ⌜ Valid self × (timer < mostTimers) × (alone timer (view self .group) ≡ true) ⌝ }
         ensures { λ r. ⌜ r ≡ pack (reset timer (view self)) ⌝ }
     {
         let top = self.top;
@@ -243,9 +243,9 @@ impl Region {
         self
     }
 
-    // The timer leaves others behind in its group, or was in r0.
+    // The timer was in r0, or it leaves other timers in its group.
     fn reset_joined(mut self, timer: usize) -> Region
-        requires { ⌜ Valid self × (timer < 3) × (alone timer (view self .group) ≡ false) ⌝ }
+        requires { ⌜ Valid self × (timer < mostTimers) × (alone timer (view self .group) ≡ false) ⌝ }
         ensures { λ r. ⌜ r ≡ pack (reset timer (view self)) ⌝ }
     {
         self.whole[timer] = 0;
@@ -253,9 +253,9 @@ impl Region {
         self
     }
 
-    // The timer is set to 0 if the byte names it.
+    // The timer is reset if its bit stands in the byte.
     fn reset_if_named(self, resets: u8, timer: usize) -> Region
-        requires { ⌜ Valid self × (timer < 3) ⌝ }
+        requires { ⌜ Valid self × (timer < mostTimers) ⌝ }
         ensures { λ r. ⌜ r ≡ pack (resetAll (named resets (timer ∷ [])) (view self)) ⌝ }
     {
         if (resets >> timer) % 2 == 1 {

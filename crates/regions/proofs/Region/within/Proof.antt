@@ -1,24 +1,23 @@
--- `regions::Region::within` meets its contract. The first t timers are at or below their ceilings.
+-- `regions::Region::within` meets its contract. The timers before the present one are at or below their ceilings.
 -- Assumes nothing.
 use mathlib.Core.Path.{_≡_, _∙_, sym}
-use mathlib.Core.Bool.{true, false}
+use mathlib.Core.Bool.{true}
 use Prim.Native.Nat.{ℕ, _-_, _≤_, _<_}
 use native.Mathlib.Omega.{arith}
 use borrow.Author.Needs.{needs}
 use borrow.Author.Count.{below-more}
-use lib.Dec.{leb}
-use lib.ListN.{length, getD, take}
-use Rattle.semantics.specs.Region.{high}
+use borrow.Author.Tests.{not-true, not-false}
+use lib.ListN.{length, getD}
 use Rattle.regions.specs.Laws.Fields.{held}
-use Rattle.regions.proofs.Ceilings.{within-all, within-some}
+use Rattle.regions.proofs.Ceilings.{low, within-all, within-some}
 use Rattle.regions.proofs.Region.within.Statement.{statement}
 use Rattle.regions.proofs.Region.within.Tie as tie
 
 abbrev Inv-loop : tie.InvT-loop
-Inv-loop ceilings n whole group t₀ t = (t ≤ n) × ((i : ℕ) → i < t → leb (high (getD whole i 0) (getD group i 0)) (getD ceilings i 0) ≡ true)
+Inv-loop ceilings n whole group timer₀ timer = (timer ≤ n) × ((i : ℕ) → i < timer → low whole group i (getD ceilings i 0) ≡ true)
 
 abbrev μ-loop : tie.MeasureT-loop
-μ-loop ceilings n whole group t₀ t = n - t
+μ-loop ceilings n whole group timer₀ timer = n - timer
 
 cast-n : tie.Need-cast-n Inv-loop μ-loop
 cast-n c = search needs
@@ -41,25 +40,25 @@ at-most-requires c κs = search needs
 returns : tie.Need-returns Inv-loop μ-loop
 returns c =
     let start = c .before .before .before .before .before .before .before in
-    let t = c .before .before .before .loop .t in
+    let x = c .before .before .before .loop .timer in
     let three : length (start .args .t2) ≡ 3 = search needs in
-    let b : t < start .args .self .timers = omega arith in
-    sym (within-some (start .args .self) (start .pre) (start .args .t2) three t b (sym (c .before .at-most .ensures) ∙ c .if1 .left))
+    let b : x < start .args .self .timers = omega arith in
+    sym (within-some (start .args .self) (start .pre) (start .args .t2) three x b (sym (c .before .at-most .ensures) ∙ not-true _ (c .if1 .taken)))
 
-add-t : tie.Need-add-t Inv-loop μ-loop
-add-t c = omega arith
+add-timer : tie.Need-add-timer Inv-loop μ-loop
+add-timer c = omega arith
 
 loop-less : tie.Need-loop-less Inv-loop μ-loop
 loop-less c = omega arith
 
 loop-again : tie.Need-loop-again Inv-loop μ-loop
-loop-again c = (omega arith, below-more _ _ (c .before .before .before .loop .inv .1) (sym (c .before .at-most .ensures) ∙ c .if1 .taken))
+loop-again c = (omega arith, below-more _ _ (c .before .before .before .loop .inv .1) (sym (c .before .at-most .ensures) ∙ not-false _ (c .if1 .left)))
 
 returns-2 : tie.Need-returns-2 Inv-loop μ-loop
 returns-2 c =
     let start = c .before .before .before .before .before in
     let three : length (start .args .t2) ≡ 3 = search needs in
-    let e : c .before .loop .t ≡ start .args .self .timers = omega arith in
+    let e : c .before .loop .timer ≡ start .args .self .timers = omega arith in
     sym (within-all (start .args .self) (start .pre) (start .args .t2) three (λ i b. c .before .loop .inv .1 i (rw e b)))
 
 pub within-spec : {M : Type 1} → statement M
@@ -75,7 +74,7 @@ within-spec =
     array-read-at-most-3
     at-most-requires
     returns
-    add-t
+    add-timer
     loop-less
     loop-again
     returns-2)

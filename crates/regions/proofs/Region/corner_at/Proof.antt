@@ -1,10 +1,17 @@
 -- `regions::Region::corner_at` meets its contract.
 -- Assumes nothing.
+use Prim.Native.Nat.{_+_, _/_, _<_}
 use native.Mathlib.Omega.{arith}
 use borrow.Author.Needs.{needs}
 use Rattle.regions.proofs.Rules.{row-in, corner-is}
 use Rattle.regions.proofs.Region.corner_at.Statement.{statement}
 use Rattle.regions.proofs.Region.corner_at.Tie as tie
+
+-- The row is in the table.
+inside : (c : tie.After-wide) → c .wide .result + c .before .args .number / 8 < 13
+inside c =
+    let start = c .before in
+    rw (c .wide .ensures .0) (row-in (start .args .timers) (start .args .number) (start .pre .0) (start .pre .1) (start .pre .2))
 
 array-read-wide : tie.Need-array-read-wide
 array-read-wide c = search needs
@@ -13,13 +20,13 @@ wide-requires : tie.Need-wide-requires
 wide-requires c κs = search needs
 
 add-row : tie.Need-add-row
-add-row c = omega (arith, row-in (c .before .args .timers) (c .before .args .number) (c .before .pre .0) (c .before .pre .1) (c .before .pre .2), c .wide .ensures .0)
+add-row c = omega (arith, inside c)
 
 mul-row : tie.Need-mul-row
-mul-row c = omega (arith, row-in (c .before .args .timers) (c .before .args .number) (c .before .pre .0) (c .before .pre .1) (c .before .pre .2), c .wide .ensures .0)
+mul-row c = omega (arith, inside c)
 
 array-copy-out-row : tie.Need-array-copy-out-row
-array-copy-out-row c = rw (c .wide .ensures .0) (row-in (c .before .args .timers) (c .before .args .number) (c .before .pre .0) (c .before .pre .1) (c .before .pre .2))
+array-copy-out-row c = inside c
 
 array-read-code : tie.Need-array-read-code
 array-read-code c = search needs

@@ -1,5 +1,6 @@
 -- `regions::Region::leave` meets its contract.
 -- Assumes nothing.
+use Prim.Native.Nat.{_<_}
 use native.Mathlib.Omega.{arith}
 use borrow.Author.Needs.{needs}
 use Rattle.regions.specs.Held.{view}
@@ -8,12 +9,14 @@ use Rattle.regions.proofs.Methods.{zero-some, left-is}
 use Rattle.regions.proofs.Region.leave.Statement.{statement}
 use Rattle.regions.proofs.Region.leave.Tie as tie
 
+-- There is room for one price more.
+room : (c : tie.Start) → c .args .t1 .top < 3
+room c =
+    let s = c .args .t1 in
+    top-fewer s (view s) (held s (c .pre .0)) (zero-some (view s) (c .pre .2))
+
 add-top : tie.Need-add-top
-add-top c =
-    let start = c in
-    let s = start .args .t1 in
-    let h = held s (start .pre .0) in
-    omega (arith, top-fewer s (view s) h (zero-some (view s) (start .pre .2)))
+add-top c = omega (arith, room c)
 
 cast-raised : tie.Need-cast-raised
 cast-raised c = search needs
@@ -42,11 +45,7 @@ mul-self : tie.Need-mul-self
 mul-self c = search needs
 
 element-write-self : tie.Need-element-write-self
-element-write-self c =
-    let start = c .before .before .before in
-    let s = start .args .t1 in
-    let h = held s (start .pre .0) in
-    omega (arith, top-fewer s (view s) h (zero-some (view s) (start .pre .2)))
+element-write-self c = omega (arith, room (c .before .before .before))
 
 returns : tie.Need-returns
 returns c =

@@ -2,6 +2,7 @@
 pub mod Turns
 pub mod Entries
 pub mod Methods
+pub mod Resets
 pub mod Codes
 pub mod Ceilings
 pub mod Rules

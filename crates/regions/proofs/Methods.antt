@@ -1,23 +1,20 @@
 -- The struct that each method builds is the struct of the region that the definition gives.
 -- Assumes nothing.
 use mathlib.Core.Path.{_≡_, refl, ap, _∙_, sym}
-use mathlib.Core.Bool.{Bool, true, false, cond}
+use mathlib.Core.Bool.{true, false}
 use mathlib.Core.List.{List, [], _∷_, _++_, map}
-use Prim.Native.Nat.{ℕ, suc, pred, _+_, _-_, _/_, _%_, _^_, _<_, _≤_, min}
+use Prim.Native.Nat.{ℕ, suc, pred, _+_, _-_, _<_, _≤_, min}
 use native.Mathlib.Omega.{arith}
 use borrow.Author.Tests.{eqb-true, eqb-false}
-use lib.Dec.{eqb}
 use lib.ListN.{length, getD, drop, set, length-replicate, length-set}
-use Rattle.semantics.specs.Region.{PricedRegion, count, top, risen, merge, alone, noZero, start, leave, arrive, delay, linger, reset, resetAll, charge}
+use Rattle.semantics.specs.Region.{PricedRegion, count, top, risen, merge, alone, noZero, start, leave, arrive, delay, linger, reset, charge}
 use Rattle.semantics.specs.Regions.Renumber.{wrapped, wrapped-other, lowered, lowered-low}
 use Rattle.semantics.specs.Regions.Cases.{delay-arrive, delay-leave, lingered, linger-empty, linger-same, alone-true, resetAlone, resetJoined, reset-alone, reset-joined}
 use Rattle.semantics.specs.Regions.Lengths.{leave-top, arrive-timers, arrive-top, charge-prices, merged-in, length-merge}
-use Rattle.reader.specs.Meaning.{named}
 use Rattle.regions.specs.declared.Region.{Region}
 use Rattle.regions.specs.Arrays.{mapTo}
-use Rattle.regions.specs.Held.{pad, pack, view, Valid}
+use Rattle.regions.specs.Held.{pack}
 use Rattle.regions.specs.Laws.Pads.{map-pad, mapTo-pad, clear-pad, set-pad, snoc-pad, risen-pad, tail-pad, merge-pad, zeros-pad}
-use Rattle.regions.specs.Laws.Chain.{Gives, resetAll-gives}
 use Rattle.regions.specs.Laws.Fields.{packed, Holds, timers-is, group-length, top-is, whole-is, group-is, prices-is, price-count, price-at, group-at, top-few, top-fewer, top-above}
 
 abbrev struct : ℕ → ℕ → List ℕ → List ℕ → List ℕ → Region
@@ -125,23 +122,3 @@ module _ (s : Region) (r : PricedRegion) (h : Holds s r) where
         (rw (group-at s r h x, group-is s r h, map-pad 3 (r .group) (lowered g) (lowered-low g 0 (omega arith))) (clear-pad 3 (map (lowered g) (r .group)) x))
         (rw (group-at s r h x, top-is s r h, prices-is s r h) (merge-pad 4 (top r - g) (r .prices) b prices-few))
         ∙ ap pack (sym (reset-alone x r a))
-
--- The timers that a byte names, the first of them reset before the others.
-resets-split : (byte x : ℕ) (xs : List ℕ) (r : PricedRegion) → resetAll (named byte (x ∷ xs)) r ≡ resetAll (named byte xs) (resetAll (named byte (x ∷ [])) r)
-unfolding resetAll
-resets-split byte x xs r = go (eqb (byte / 2 ^ x % 2) 1)
-  where
-    go : (b : Bool) → resetAll (cond b (x ∷ named byte xs) (named byte xs)) r ≡ resetAll (named byte xs) (resetAll (cond b (x ∷ []) []) r)
-    go true = refl
-    go false = refl
-
--- The three timers that a byte can name, one after another.
-pub resets-is :
-    (byte : ℕ) (s a b t : Region) → Valid s → a ≡ pack (resetAll (named byte (0 ∷ [])) (view s)) → b ≡ pack (resetAll (named byte (1 ∷ [])) (view a))
-    → t ≡ pack (resetAll (named byte (2 ∷ [])) (view b)) → t ≡ pack (resetAll (named byte (0 ∷ 1 ∷ 2 ∷ [])) (view s))
-resets-is byte s a b t v ea eb et =
-    let first = resetAll-gives s a v (named byte (0 ∷ [])) ea in
-    let second = resetAll-gives a b (first .valid) (named byte (1 ∷ [])) eb in
-    et
-    ∙ ap (λ (r : PricedRegion). pack (resetAll (named byte (2 ∷ [])) r)) (second .seen ∙ ap (resetAll (named byte (1 ∷ []))) (first .seen))
-    ∙ ap pack (sym (resets-split byte 0 (1 ∷ 2 ∷ []) (view s) ∙ resets-split byte 1 (2 ∷ []) (resetAll (named byte (0 ∷ [])) (view s))))

@@ -1,13 +1,13 @@
 -- The constant tables are right: each by a test that is computed over the list of all corners of one, two and three timers.
 -- Assumes nothing.
-use mathlib.Core.Path.{_≡_, refl, ap, _∙_, sym, subst}
+use mathlib.Core.Path.{_≡_, refl, ap, _∙_, sym}
 use mathlib.Core.Bool.{Bool, true, _&&_}
 use mathlib.Core.List.{List, [], _∷_, List·Memᴰ}
 use Prim.Native.Nat.{ℕ, zero, suc, _+_, _-_, _*_, _/_, _%_, _<_, _≤_, max}
 use native.Mathlib.Omega.{arith}
 use borrow.Author.Tests.{eqb-true}
 use lib.Dec.{eqb}
-use lib.ListN.{length, getD}
+use lib.ListN.{getD}
 use Rattle.semantics.specs.Region.{PricedRegion}
 use Rattle.semantics.specs.Corner.{Corner, cornerOf, corners, cornerCount, sameList, cornerNumber, cornerAt}
 use Rattle.semantics.specs.Regions.Compare.{and-true-iff}

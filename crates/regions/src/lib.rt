@@ -2,7 +2,7 @@
 ghost use mathlib.Core.Path.{_≡_};
 ghost use mathlib.Core.Bool.{true, false};
 ghost use mathlib.Core.List.{_∷_, []};
-ghost use Prim.Native.Nat.{ℕ, _<_, _≤_, max};
+ghost use Prim.Native.Nat.{_<_, _≤_, max};
 ghost use lib.ListN.{take};
 ghost use Rattle.semantics.specs.Region.{noZero, alone, start, leave, arrive, delay, linger, reset, resetAll, charge, meets, within};
 ghost use Rattle.semantics.specs.Corner.{cornerCount, cornerOf, cornerNumber, cornerAt};
@@ -68,7 +68,9 @@ impl Region {
     {
         if self.no_zero() {
             let top = self.top as usize;
-            self.prices[top] = arrays::least(self.prices[top], self.prices[0] + rate);
+            let highest = self.prices[top];
+            let waited = self.prices[0] + rate;
+            self.prices[top] = arrays::least(highest, waited);
         }
         self
     }

@@ -4,18 +4,17 @@
 use mathlib.Core.Path.{_≡_, refl, ap, _∙_, sym, subst}
 use mathlib.Core.Bool.{false}
 use mathlib.Core.List.{List, [], _∷_}
-use Prim.Native.Nat.{ℕ, suc, pred, _<_, _≤_}
+use Prim.Native.Nat.{ℕ, suc, _<_, _≤_}
 use native.Mathlib.Decide.{decLt}
 use native.Mathlib.Omega.{arith}
-use borrow.Author.Tests.{le-ltb}
-use lib.ListN.{length, getD, take, List·getD-eq-default}
+use lib.ListN.{length, List·getD-eq-default}
 use lib.Seq.{set-out}
 use Rattle.semantics.specs.Region.{PricedRegion, WellFormed, top, alone, start, delay, linger, reset, resetAll, charge}
-use Rattle.semantics.specs.Regions.Cases.{resetJoined, reset-joined}
+use Rattle.semantics.specs.Regions.Cases.{reset-joined}
 use Rattle.semantics.specs.Regions.Lengths.{SameTimers, prices-top, start-timers, delay-timers, linger-timers, charge-timers, resetAll-timers, reset-timers}
 use Rattle.semantics.specs.Regions.WellFormed.{start-well-formed, delay-well-formed, linger-well-formed, charge-well-formed, reset-well-formed}
 use Rattle.regions.specs.declared.Region.{Region}
-use Rattle.regions.specs.Held.{pad, pack, view, Valid}
+use Rattle.regions.specs.Held.{pack, view, Valid}
 use Rattle.regions.specs.Laws.Pads.{take-pad}
 use Rattle.regions.specs.Laws.Fields.{held, timers-is}
 

@@ -1,14 +1,13 @@
 -- What a caller may conclude of a corner that was found by its number: the regions to which it belongs.
 -- Assumes nothing.
-use mathlib.Core.Path.{_≡_, refl, ap, _∙_, sym, subst}
+use mathlib.Core.Path.{_≡_, refl, ap, _∙_, sym}
 use mathlib.Core.List.{List, [], _∷_}
-use Prim.Native.Nat.{ℕ, zero, suc, pred, _<_, _≤_, max, zero-le}
-use native.Mathlib.Nat.{not-suc-le-zero, le-of-suc-le-suc}
+use Prim.Native.Nat.{ℕ, zero, suc, pred, _<_, _≤_, zero-le}
 use native.Mathlib.Decide.{decLt}
 use native.Mathlib.Omega.{arith}
 use lib.ListN.{length, getD, replicate, length-replicate}
-use Rattle.semantics.specs.Region.{PricedRegion, WellFormed, count, top}
-use Rattle.semantics.specs.Corner.{Corner, corners, cornerCount, cornerAt}
+use Rattle.semantics.specs.Region.{PricedRegion, WellFormed, top}
+use Rattle.semantics.specs.Corner.{cornerCount, cornerAt}
 use Rattle.semantics.specs.Regions.Count.{count-place}
 use Rattle.semantics.specs.Regions.Groups.{top-full}
 use Rattle.semantics.specs.Regions.Lengths.{prices-top}

@@ -1,16 +1,16 @@
 -- How much room the operations leave: what a caller needs for the bounds that `delay`, `linger` and `charge` require.
 -- Assumes nothing.
-use mathlib.Core.Path.{_≡_, refl, ap, sym, subst}
+use mathlib.Core.Path.{_≡_, sym, subst}
 use mathlib.Core.Bool.{true}
 use mathlib.Core.Logic.{⊎-elim}
 use mathlib.Core.List.{List, [], _∷_, _++_, map}
-use Prim.Native.Nat.{ℕ, zero, suc, _+_, _-_, _<_, _≤_, _^_, min}
+use Prim.Native.Nat.{ℕ, zero, suc, _+_, _-_, _<_, _≤_, _^_}
 use native.Mathlib.Decide.{decLt}
 use native.Mathlib.Omega.{arith}
-use lib.ListN.{length, getD, drop, set, List·getD-eq-default}
+use lib.ListN.{length, getD, drop, List·getD-eq-default}
 use Rattle.semantics.specs.Region.{PricedRegion, WellFormed, top, merge, start, leave, arrive, delay, linger, reset, resetAll, charge, within}
 use Rattle.semantics.specs.Regions.Lists.{map-below, set-below, replicate-zero}
-use Rattle.semantics.specs.Regions.Cases.{zero-cases, delay-arrive, delay-leave, lingered, linger-empty, linger-same, resetAlone, resetJoined, reset-alone, reset-joined, alone-cases}
+use Rattle.semantics.specs.Regions.Cases.{zero-cases, delay-arrive, delay-leave, lingered, linger-empty, linger-same, resetAlone, reset-alone, reset-joined, alone-cases}
 use Rattle.semantics.specs.Nodes.Regions.{within-whole}
 use Rattle.regions.specs.Held.{PriceRoom, WholeRoom}
 

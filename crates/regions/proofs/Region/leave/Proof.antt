@@ -1,22 +1,28 @@
 -- `regions::Region::leave` meets its contract.
 -- Assumes nothing.
-use Prim.Native.Nat.{_<_}
+use Prim.Native.Nat.{ℕ, _+_, _<_, _^_}
 use native.Mathlib.Omega.{arith}
 use borrow.Author.Needs.{needs}
+use lib.ListN.{getD}
 use Rattle.regions.specs.Held.{view}
 use Rattle.regions.specs.Laws.Fields.{held, top-fewer, price-at, group-few}
 use Rattle.regions.proofs.Methods.{zero-some, left-is}
 use Rattle.regions.proofs.Region.leave.Statement.{statement}
 use Rattle.regions.proofs.Region.leave.Tie as tie
 
--- There is room for one price more.
-room : (c : tie.Start) → c .args .t1 .top < 3
-room c =
+-- There is a place for one price more, and room for the rate.
+place : (c : tie.Start) → c .args .t1 .top < 3
+place c =
     let s = c .args .t1 in
     top-fewer s (view s) (held s (c .pre .0)) (zero-some (view s) (c .pre .2))
 
+room : (c : tie.Start) (i : ℕ) → getD (c .args .t1 .prices) i 0 + c .args .rate < 2 ^ 32
+room c i =
+    let s = c .args .t1 in
+    rw (price-at s (view s) (held s (c .pre .0)) i) (c .pre .1 i)
+
 add-top : tie.Need-add-top
-add-top c = omega (arith, room c)
+add-top c = omega (arith, place c)
 
 cast-raised : tie.Need-cast-raised
 cast-raised c = search needs
@@ -32,11 +38,7 @@ element-copy-out-self : tie.Need-element-copy-out-self
 element-copy-out-self c = search needs
 
 add-self : tie.Need-add-self
-add-self c =
-    let start = c .before .before .before in
-    let s = start .args .t1 in
-    let h = held s (start .pre .0) in
-    omega (arith, price-at s (view s) h 0, start .pre .1 0)
+add-self c = record { fits = room (c .before .before .before) _ }
 
 cast-self : tie.Need-cast-self
 cast-self c = search needs
@@ -45,7 +47,7 @@ mul-self : tie.Need-mul-self
 mul-self c = search needs
 
 element-write-self : tie.Need-element-write-self
-element-write-self c = omega (arith, room (c .before .before .before))
+element-write-self c = omega (arith, place (c .before .before .before))
 
 returns : tie.Need-returns
 returns c =

@@ -1,20 +1,26 @@
 -- `regions::Region::linger` meets its contract.
 -- Assumes nothing.
 use mathlib.Core.Path.{sym, _∙_}
-use Prim.Native.Nat.{_<_}
+use Prim.Native.Nat.{ℕ, _+_, _<_, _^_}
 use native.Mathlib.Omega.{arith}
 use borrow.Author.Needs.{needs}
+use lib.ListN.{getD}
 use Rattle.regions.specs.Held.{view}
 use Rattle.regions.specs.Laws.Fields.{held, top-few, price-at}
 use Rattle.regions.proofs.Methods.{lingered-is, unlingered-is}
 use Rattle.regions.proofs.Region.linger.Statement.{statement}
 use Rattle.regions.proofs.Region.linger.Tie as tie
 
--- The highest price is in the array.
+-- The highest price is in the array, and there is room for the rate.
 top-in : (c : tie.Start) → c .args .t1 .top < 4
 top-in c =
     let s = c .args .t1 in
     omega (arith, top-few s (view s) (held s (c .pre .0)))
+
+room : (c : tie.Start) (i : ℕ) → getD (c .args .t1 .prices) i 0 + c .args .rate < 2 ^ 32
+room c i =
+    let s = c .args .t1 in
+    rw (price-at s (view s) (held s (c .pre .0)) i) (c .pre .1 i)
 
 no-zero-requires : tie.Need-no-zero-requires
 no-zero-requires c κs = search needs
@@ -22,21 +28,17 @@ no-zero-requires c κs = search needs
 cast-top : tie.Need-cast-top
 cast-top c = search needs
 
-mul-least : tie.Need-mul-least
-mul-least c = search needs
+mul-highest : tie.Need-mul-highest
+mul-highest c = search needs
 
-element-copy-out-least : tie.Need-element-copy-out-least
-element-copy-out-least c = top-in (c .before .before)
+element-copy-out-highest : tie.Need-element-copy-out-highest
+element-copy-out-highest c = top-in (c .before .before)
 
-element-copy-out-least-2 : tie.Need-element-copy-out-least-2
-element-copy-out-least-2 c = search needs
+element-copy-out-waited : tie.Need-element-copy-out-waited
+element-copy-out-waited c = search needs
 
-add-least : tie.Need-add-least
-add-least c =
-    let start = c .before .before .before .before in
-    let s = start .args .t1 in
-    let h = held s (start .pre .0) in
-    omega (arith, price-at s (view s) h 0, start .pre .1 0)
+add-waited : tie.Need-add-waited
+add-waited c = record { fits = room (c .before .before .before .before) _ }
 
 least-requires : tie.Need-least-requires
 least-requires c κs = search needs
@@ -68,10 +70,10 @@ linger-spec =
     (tie.spec
     no-zero-requires
     cast-top
-    mul-least
-    element-copy-out-least
-    element-copy-out-least-2
-    add-least
+    mul-highest
+    element-copy-out-highest
+    element-copy-out-waited
+    add-waited
     least-requires
     mul-self
     element-write-self

@@ -3,7 +3,7 @@
 use native.Mathlib.Omega.{arith}
 use borrow.Author.Needs.{needs}
 use Rattle.regions.specs.Laws.Chain.{resetAll-gives}
-use Rattle.regions.proofs.Methods.{resets-is}
+use Rattle.regions.proofs.Resets.{resets-is}
 use Rattle.regions.proofs.Region.reset_all.Statement.{statement}
 use Rattle.regions.proofs.Region.reset_all.Tie as tie
 

@@ -8,7 +8,6 @@ use borrow.Author.Needs.{needs}
 use borrow.Author.Count.{below-more}
 use borrow.Author.Tests.{not-true, not-false}
 use lib.ListN.{length, getD}
-use Rattle.regions.specs.Laws.Fields.{held}
 use Rattle.regions.proofs.Ceilings.{low, within-all, within-some}
 use Rattle.regions.proofs.Region.within.Statement.{statement}
 use Rattle.regions.proofs.Region.within.Tie as tie

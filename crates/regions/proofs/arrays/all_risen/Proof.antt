@@ -1,7 +1,6 @@
 -- `regions::arrays::all_risen` meets its contract.
 -- Assumes nothing.
-use mathlib.Core.Path.{_≡_, ap, ap₂, sym}
-use native.Mathlib.Omega.{arith}
+use mathlib.Core.Path.{_≡_, ap₂, sym}
 use borrow.Author.Needs.{needs}
 use lib.ListN.{length}
 use Rattle.semantics.specs.Region.{risen}

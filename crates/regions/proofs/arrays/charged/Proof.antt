@@ -26,7 +26,7 @@ array-read-next : tie.Need-array-read-next Inv-loop μ-loop
 array-read-next c = omega arith
 
 add-next : tie.Need-add-next Inv-loop μ-loop
-add-next c = record { fits = c .before .before .pre .1 (c .before .loop .i) }
+add-next c = record { fits = c .before .before .pre .1 _ }
 
 mul-next-2 : tie.Need-mul-next-2 Inv-loop μ-loop
 mul-next-2 c = omega arith

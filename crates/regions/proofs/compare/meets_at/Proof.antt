@@ -1,6 +1,5 @@
 -- `regions::compare::meets_at` meets its contract.
 -- Assumes nothing.
-use native.Mathlib.Omega.{arith}
 use borrow.Author.Needs.{needs}
 use borrow.Author.Tests.{eq-eqb, ne-eqb}
 use Rattle.regions.proofs.Codes.{code-less, code-greater}

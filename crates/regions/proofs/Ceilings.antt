@@ -14,7 +14,7 @@ use Rattle.semantics.specs.Region.{PricedRegion, high, meets, withinFrom, withi
 use Rattle.semantics.specs.Regions.Compare.{and-true-iff}
 use Rattle.regions.specs.declared.Region.{Region}
 use Rattle.regions.specs.Held.{view, Valid}
-use Rattle.regions.specs.Laws.Fields.{held, whole-at, group-at}
+use Rattle.regions.specs.Laws.Fields.{holds, whole-at, group-at}
 
 -- The test of one ceiling.
 abbrev pub low : List ℕ → List ℕ → ℕ → ℕ → Bool
@@ -56,7 +56,7 @@ module _ (s : Region) (v : Valid s) (cs : List ℕ) (three : length cs ≡ 3) wh
   -- What is read from the arrays is what is read from the region.
   as-region : (i : ℕ) → i < s .timers → low (s .whole) (s .group) i (getD cs i 0) ≡ low (view s .whole) (view s .group) i (getD (take (s .timers) cs) i 0)
   as-region i b =
-      let h = held s v in
+      let h = holds s v in
       ap₂ (λ (w g : ℕ). leb (high w g) (getD cs i 0)) (whole-at s (view s) h i) (group-at s (view s) h i)
       ∙ ap (low (view s .whole) (view s .group) i) (sym (getD-take (s .timers) cs i 0 b))
 

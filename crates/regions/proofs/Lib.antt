@@ -1,6 +1,7 @@
 -- The laws that the functions' proofs cite.
 pub mod Turns
 pub mod Entries
+pub mod Pads
 pub mod Methods
 pub mod Resets
 pub mod Codes

@@ -14,9 +14,10 @@ use Rattle.semantics.specs.Regions.Lengths.{leave-top, arrive-timers, arrive-to
 use Rattle.regions.specs.declared.Region.{Region}
 use Rattle.regions.specs.Arrays.{mapTo}
 use Rattle.regions.specs.Held.{pack}
-use Rattle.regions.specs.Laws.Pads.{map-pad, mapTo-pad, clear-pad, set-pad, snoc-pad, risen-pad, tail-pad, merge-pad, zeros-pad}
 use Rattle.regions.specs.Laws.Fields.{packed, Holds, timers-is, group-length, top-is, whole-is, group-is, prices-is, price-count, price-at, group-at, top-few, top-fewer, top-above}
+use Rattle.regions.proofs.Pads.{map-pad, mapTo-pad, clear-pad, set-pad, snoc-pad, risen-pad, tail-pad, merge-pad, zeros-pad}
 
+-- A struct by its fields.
 abbrev struct : ℕ → ℕ → List ℕ → List ℕ → List ℕ → Region
 struct n k w g p = record { timers = n; top = k; whole = w; group = g; prices = p }
 

@@ -1,4 +1,4 @@
--- How the struct `Region` holds a priced region, and the bounds within which its numbers do not overflow.
+-- How the structs `Region` and `CornerAt` hold a priced region and a corner, and the bounds within which no number overflows.
 -- Assumes nothing.
 use mathlib.Core.Path.{_≡_}
 use mathlib.Core.List.{List, [], _∷_, _++_}
@@ -52,11 +52,11 @@ PriceRoom amount r = (i : ℕ) → getD (r .prices) i 0 + amount < 2 ^ 32
 abbrev pub WholeRoom : PricedRegion → Type 0
 WholeRoom r = (i : ℕ) → getD (r .whole) i 0 < 255
 
--- The greatest of some numbers.
+-- The number of the highest group.
 abbrev pub highest : List ℕ → ℕ
 highest [] = 0
 highest (g ∷ gs) = max g (highest gs)
 
--- The struct that holds a corner. A region's highest group is that of the greatest number.
+-- The struct that holds a corner.
 unfoldable pub packCorner : Corner → CornerAt
 packCorner c = record { group = pad mostTimers (c .group); index = c .index; top = highest (c .group) }

@@ -10,13 +10,13 @@ use Rattle.semantics.specs.Region.{PricedRegion, WellFormed, count, top}
 use Rattle.semantics.specs.Regions.Lengths.{prices-top}
 use Rattle.semantics.specs.Regions.Groups.{groups-few, groups-fewer, top-pos}
 use Rattle.regions.specs.declared.Region.{Region}
-use Rattle.regions.specs.Held.{pad, pack, view, Valid}
+use Rattle.regions.specs.Held.{mostTimers, mostCorners, pad, pack, view, Valid}
 use Rattle.regions.specs.Laws.Pads.{getD-pad}
 
 -- The struct of a region, by its fields.
 pub packed :
-    (s : Region) (r : PricedRegion) → s .timers ≡ length (r .whole) → s .top ≡ top r → s .whole ≡ pad 3 (r .whole) → s .group ≡ pad 3 (r .group)
-    → s .prices ≡ pad 4 (r .prices) → s ≡ pack r
+    (s : Region) (r : PricedRegion) → s .timers ≡ length (r .whole) → s .top ≡ top r → s .whole ≡ pad mostTimers (r .whole) → s .group ≡ pad mostTimers (r .group)
+    → s .prices ≡ pad mostCorners (r .prices) → s ≡ pack r
 unfolding pack
 packed s r n k w g p = λ i. record { timers = n i; top = k i; whole = w i; group = g i; prices = p i }
 
@@ -24,10 +24,10 @@ packed s r n k w g p = λ i. record { timers = n i; top = k i; whole = w i; grou
 pub record Holds (s : Region) (r : PricedRegion) : Type 0 where
   pub is : s ≡ pack r
   pub wellFormed : WellFormed r
-  pub few : s .timers ≤ 3
+  pub few : s .timers ≤ mostTimers
 
-pub held : (s : Region) → Valid s → Holds s (view s)
-held s v = record { is = v .held; wellFormed = v .wellFormed; few = v .few }
+pub holds : (s : Region) → Valid s → Holds s (view s)
+holds s v = record { is = v .held; wellFormed = v .wellFormed; few = v .few }
 
 module _ (s : Region) (r : PricedRegion) (h : Holds s r) where
   pub timers-is : s .timers ≡ length (r .whole)
@@ -41,15 +41,15 @@ module _ (s : Region) (r : PricedRegion) (h : Holds s r) where
   unfolding pack
   top-is = ap (λ (t : Region). t .top) (h .is)
 
-  pub whole-is : s .whole ≡ pad 3 (r .whole)
+  pub whole-is : s .whole ≡ pad mostTimers (r .whole)
   unfolding pack
   whole-is = ap (λ (t : Region). t .whole) (h .is)
 
-  pub group-is : s .group ≡ pad 3 (r .group)
+  pub group-is : s .group ≡ pad mostTimers (r .group)
   unfolding pack
   group-is = ap (λ (t : Region). t .group) (h .is)
 
-  pub prices-is : s .prices ≡ pad 4 (r .prices)
+  pub prices-is : s .prices ≡ pad mostCorners (r .prices)
   unfolding pack
   prices-is = ap (λ (t : Region). t .prices) (h .is)
 
@@ -58,13 +58,13 @@ module _ (s : Region) (r : PricedRegion) (h : Holds s r) where
 
   -- What is read from an array is what is read from the list.
   pub whole-at : (i : ℕ) → getD (s .whole) i 0 ≡ getD (r .whole) i 0
-  whole-at i = ap (λ (l : List ℕ). getD l i 0) whole-is ∙ getD-pad 3 (r .whole) i
+  whole-at i = ap (λ (l : List ℕ). getD l i 0) whole-is ∙ getD-pad mostTimers (r .whole) i
 
   pub group-at : (i : ℕ) → getD (s .group) i 0 ≡ getD (r .group) i 0
-  group-at i = ap (λ (l : List ℕ). getD l i 0) group-is ∙ getD-pad 3 (r .group) i
+  group-at i = ap (λ (l : List ℕ). getD l i 0) group-is ∙ getD-pad mostTimers (r .group) i
 
   pub price-at : (i : ℕ) → getD (s .prices) i 0 ≡ getD (r .prices) i 0
-  price-at i = ap (λ (l : List ℕ). getD l i 0) prices-is ∙ getD-pad 4 (r .prices) i
+  price-at i = ap (λ (l : List ℕ). getD l i 0) prices-is ∙ getD-pad mostCorners (r .prices) i
 
   -- There is an entry for the price of each corner, and one more where r0 holds a timer.
   pub top-few : s .top ≤ 3

@@ -15,7 +15,7 @@ use Rattle.semantics.specs.Nodes.Regions.{within-whole}
 use Rattle.regions.specs.Held.{PriceRoom, WholeRoom}
 
 -- Every entry is below m; what is read past the end is 0.
-abbrev Below : ℕ → List ℕ → Type 0
+abbrev pub Below : ℕ → List ℕ → Type 0
 Below m l = (i : ℕ) → getD l i 0 < m
 
 drop-below : (m : ℕ) (l : List ℕ) → Below m l → Below m (drop 1 l)

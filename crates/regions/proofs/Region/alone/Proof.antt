@@ -3,7 +3,7 @@
 use borrow.Author.Needs.{needs}
 use borrow.Author.Tests.{lt-ltb, le-ltb}
 use Rattle.regions.specs.Held.{view}
-use Rattle.regions.specs.Laws.Fields.{held, group-at}
+use Rattle.regions.specs.Laws.Fields.{holds, group-at}
 use Rattle.regions.proofs.Region.alone.Statement.{statement}
 use Rattle.regions.proofs.Region.alone.Tie as tie
 
@@ -21,14 +21,14 @@ unfolding view
 returns c =
     let start = c .before .before .before .before in
     let s = start .args .self in
-    let h = held s (start .pre .0) in
+    let h = holds s (start .pre .0) in
     simp (← group-at s (view s) h (start .args .timer), lt-ltb _ _ (c .before .before .if1 .taken), c .count-of .ensures)
 
 returns-2 : tie.Need-returns-2
 returns-2 c =
     let start = c .before .before in
     let s = start .args .self in
-    let h = held s (start .pre .0) in
+    let h = holds s (start .pre .0) in
     simp (← group-at s (view s) h (start .args .timer), le-ltb _ _ (c .if1 .left))
 
 pub alone-spec : {M : Type 1} → statement M

@@ -2,7 +2,7 @@
 -- Assumes nothing.
 use borrow.Author.Needs.{needs}
 use Rattle.regions.specs.Held.{view}
-use Rattle.regions.specs.Laws.Fields.{held, whole-at, top-above}
+use Rattle.regions.specs.Laws.Fields.{holds, whole-at, top-above}
 use Rattle.regions.proofs.Methods.{zero-none, arrived-is}
 use Rattle.regions.proofs.Region.arrive.Statement.{statement}
 use Rattle.regions.proofs.Region.arrive.Tie as tie
@@ -11,7 +11,7 @@ all-risen-requires : tie.Need-all-risen-requires
 all-risen-requires c κs =
     let start = c .before .before .before in
     let s = start .args .self in
-    let h = held s (start .pre .0) in
+    let h = holds s (start .pre .0) in
     λ i. rw (whole-at s (view s) h i) (start .pre .1 i)
 
 all-wrapped-requires : tie.Need-all-wrapped-requires
@@ -24,14 +24,14 @@ sub-self : tie.Need-sub-self
 sub-self c =
     let start = c .before .before .before .before .before .before in
     let s = start .args .self in
-    let h = held s (start .pre .0) in
+    let h = holds s (start .pre .0) in
     top-above s (view s) h (zero-none (view s) (start .pre .2))
 
 returns : tie.Need-returns
 returns c =
     let start = c .before .before .before .before .before .before in
     let s = start .args .self in
-    let h = held s (start .pre .0) in
+    let h = holds s (start .pre .0) in
     rw (c .before .before .all-risen .ensures, c .before .all-wrapped .ensures, c .shifted .ensures) (arrived-is s (view s) h (start .pre .2))
 
 pub arrive-spec : {M : Type 1} → statement M

@@ -3,7 +3,7 @@
 use native.Mathlib.Omega.{arith}
 use borrow.Author.Needs.{needs}
 use Rattle.regions.specs.Held.{view}
-use Rattle.regions.specs.Laws.Fields.{held, top-few, price-at}
+use Rattle.regions.specs.Laws.Fields.{holds, top-few, price-at}
 use Rattle.regions.proofs.Methods.{charged-is}
 use Rattle.regions.proofs.Region.charge.Statement.{statement}
 use Rattle.regions.proofs.Region.charge.Tie as tie
@@ -18,14 +18,14 @@ charged-requires : tie.Need-charged-requires
 charged-requires c κs =
     let start = c .before .before in
     let s = start .args .self in
-    let h = held s (start .pre .0) in
+    let h = holds s (start .pre .0) in
     (omega (arith, top-few s (view s) h), λ i. rw (price-at s (view s) h i) (start .pre .1 i))
 
 returns : tie.Need-returns
 returns c =
     let start = c .before .before .before in
     let s = start .args .self in
-    let h = held s (start .pre .0) in
+    let h = holds s (start .pre .0) in
     rw (c .charged .ensures) (charged-is s (view s) h (start .args .price))
 
 pub charge-spec : {M : Type 1} → statement M

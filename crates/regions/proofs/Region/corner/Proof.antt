@@ -5,7 +5,7 @@ use native.Mathlib.Omega.{arith}
 use borrow.Author.Needs.{needs}
 use lib.ListN.{getD}
 use Rattle.regions.specs.Held.{view}
-use Rattle.regions.specs.Laws.Fields.{held, timers-is, top-few, group-few}
+use Rattle.regions.specs.Laws.Fields.{holds, timers-is, top-few, group-few}
 use Rattle.regions.proofs.Rules.{number-is}
 use Rattle.regions.proofs.Region.corner.Statement.{statement}
 use Rattle.regions.proofs.Region.corner.Tie as tie
@@ -14,19 +14,19 @@ use Rattle.regions.proofs.Region.corner.Tie as tie
 row-in : (c : tie.Start) → c .args .self .timers - 1 + getD (c .args .self .group) 2 0 < 6
 row-in c =
     let s = c .args .self in
-    omega (arith, c .pre .0 .few, group-few s (view s) (held s (c .pre .0)) 2)
+    omega (arith, c .pre .0 .few, group-few s (view s) (holds s (c .pre .0)) 2)
 
 column-in : (c : tie.Start) → 4 * getD (c .args .self .group) 0 0 + getD (c .args .self .group) 1 0 < 16
 column-in c =
     let s = c .args .self in
-    let few = group-few s (view s) (held s (c .pre .0)) in
+    let few = group-few s (view s) (holds s (c .pre .0)) in
     omega (arith, few 0, few 1)
 
 sub-row : tie.Need-sub-row
 sub-row c =
     let start = c .before .before in
     let s = start .args .self in
-    let h = held s (start .pre .0) in
+    let h = holds s (start .pre .0) in
     omega (arith, timers-is s (view s) h, start .pre .0 .wellFormed .some)
 
 array-read-row : tie.Need-array-read-row
@@ -69,14 +69,14 @@ add-result : tie.Need-add-result
 add-result c =
     let start = c .before .before .before .before in
     let s = start .args .self in
-    let h = held s (start .pre .0) in
+    let h = holds s (start .pre .0) in
     omega (arith, top-few s (view s) h, start .pre .1, c .wide .ensures .1)
 
 returns : tie.Need-returns
 returns c =
     let start = c .before .before .before .before in
     let s = start .args .self in
-    let h = held s (start .pre .0) in
+    let h = holds s (start .pre .0) in
     rw (c .wide .ensures .0) (number-is s (view s) h (start .args .index) (start .pre .1))
 
 pub corner-spec : {M : Type 1} → statement M

@@ -5,7 +5,7 @@ use native.Mathlib.Omega.{arith}
 use borrow.Author.Needs.{needs}
 use lib.ListN.{getD}
 use Rattle.regions.specs.Held.{view}
-use Rattle.regions.specs.Laws.Fields.{held, top-fewer, price-at, group-few}
+use Rattle.regions.specs.Laws.Fields.{holds, top-fewer, price-at, group-few}
 use Rattle.regions.proofs.Methods.{zero-some, left-is}
 use Rattle.regions.proofs.Region.leave.Statement.{statement}
 use Rattle.regions.proofs.Region.leave.Tie as tie
@@ -14,12 +14,12 @@ use Rattle.regions.proofs.Region.leave.Tie as tie
 place : (c : tie.Start) → c .args .t1 .top < 3
 place c =
     let s = c .args .t1 in
-    top-fewer s (view s) (held s (c .pre .0)) (zero-some (view s) (c .pre .2))
+    top-fewer s (view s) (holds s (c .pre .0)) (zero-some (view s) (c .pre .2))
 
 room : (c : tie.Start) (i : ℕ) → getD (c .args .t1 .prices) i 0 + c .args .rate < 2 ^ 32
 room c i =
     let s = c .args .t1 in
-    rw (price-at s (view s) (held s (c .pre .0)) i) (c .pre .1 i)
+    rw (price-at s (view s) (holds s (c .pre .0)) i) (c .pre .1 i)
 
 add-top : tie.Need-add-top
 add-top c = omega (arith, place c)
@@ -31,7 +31,7 @@ raised-requires : tie.Need-raised-requires
 raised-requires c κs =
     let start = c .before in
     let s = start .args .t1 in
-    let h = held s (start .pre .0) in
+    let h = holds s (start .pre .0) in
     (start .pre .0 .few, λ i. omega (arith, group-few s (view s) h i))
 
 element-copy-out-self : tie.Need-element-copy-out-self
@@ -53,7 +53,7 @@ returns : tie.Need-returns
 returns c =
     let start = c .before .before .before in
     let s = start .args .t1 in
-    let h = held s (start .pre .0) in
+    let h = holds s (start .pre .0) in
     rw (c .before .raised .ensures) (left-is s (view s) h (start .args .rate) (start .pre .2))
 
 pub leave-spec : {M : Type 1} → statement M

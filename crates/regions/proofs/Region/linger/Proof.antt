@@ -6,7 +6,7 @@ use native.Mathlib.Omega.{arith}
 use borrow.Author.Needs.{needs}
 use lib.ListN.{getD}
 use Rattle.regions.specs.Held.{view}
-use Rattle.regions.specs.Laws.Fields.{held, top-few, price-at}
+use Rattle.regions.specs.Laws.Fields.{holds, top-few, price-at}
 use Rattle.regions.proofs.Methods.{lingered-is, unlingered-is}
 use Rattle.regions.proofs.Region.linger.Statement.{statement}
 use Rattle.regions.proofs.Region.linger.Tie as tie
@@ -15,12 +15,12 @@ use Rattle.regions.proofs.Region.linger.Tie as tie
 top-in : (c : tie.Start) → c .args .t1 .top < 4
 top-in c =
     let s = c .args .t1 in
-    omega (arith, top-few s (view s) (held s (c .pre .0)))
+    omega (arith, top-few s (view s) (holds s (c .pre .0)))
 
 room : (c : tie.Start) (i : ℕ) → getD (c .args .t1 .prices) i 0 + c .args .rate < 2 ^ 32
 room c i =
     let s = c .args .t1 in
-    rw (price-at s (view s) (held s (c .pre .0)) i) (c .pre .1 i)
+    rw (price-at s (view s) (holds s (c .pre .0)) i) (c .pre .1 i)
 
 no-zero-requires : tie.Need-no-zero-requires
 no-zero-requires c κs = search needs
@@ -53,7 +53,7 @@ returns : tie.Need-returns
 returns c =
     let start = c .before .before .before .before .before in
     let s = start .args .t1 in
-    let h = held s (start .pre .0) in
+    let h = holds s (start .pre .0) in
     let then = c .before .before .before in
     rw (c .least .ensures) (lingered-is s (view s) h (start .args .rate) (sym (then .before .no-zero .ensures) ∙ then .if1 .taken))
 
@@ -61,7 +61,7 @@ returns-2 : tie.Need-returns-2
 returns-2 c =
     let start = c .before .before in
     let s = start .args .t1 in
-    let h = held s (start .pre .0) in
+    let h = holds s (start .pre .0) in
     unlingered-is s (view s) h (start .args .rate) (sym (c .before .no-zero .ensures) ∙ c .if1 .left)
 
 pub linger-spec : {M : Type 1} → statement M

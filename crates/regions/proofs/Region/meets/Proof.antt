@@ -6,7 +6,7 @@ use borrow.Author.Needs.{needs}
 use Rattle.semantics.specs.Region.{meetsAt, meets}
 use Rattle.reader.specs.Meaning.{comparisonOf}
 use Rattle.regions.specs.Held.{view}
-use Rattle.regions.specs.Laws.Fields.{held, whole-at, group-at}
+use Rattle.regions.specs.Laws.Fields.{holds, whole-at, group-at}
 use Rattle.regions.proofs.Region.meets.Statement.{statement}
 use Rattle.regions.proofs.Region.meets.Tie as tie
 
@@ -24,7 +24,7 @@ unfolding meets
 returns c =
     let start = c .before .before .before in
     let s = start .args .self in
-    let h = held s (start .pre .0) in
+    let h = holds s (start .pre .0) in
     let x = start .args .timer in
     let b = start .args .condition in
     c .meets-at .ensures ∙ ap₂ (λ (w g : ℕ). meetsAt (comparisonOf (b / 16)) (b % 16) w g) (whole-at s (view s) h x) (group-at s (view s) h x)

@@ -5,7 +5,7 @@ use native.Mathlib.Omega.{arith}
 use borrow.Author.Needs.{needs}
 use lib.ListN.{getD}
 use Rattle.regions.specs.Held.{view}
-use Rattle.regions.specs.Laws.Fields.{held, top-few, group-top}
+use Rattle.regions.specs.Laws.Fields.{holds, top-few, group-top}
 use Rattle.regions.proofs.Methods.{alone-pos, reset-alone-is}
 use Rattle.regions.proofs.Region.reset_alone.Statement.{statement}
 use Rattle.regions.proofs.Region.reset_alone.Tie as tie
@@ -16,7 +16,7 @@ gone :
     → (0 < getD (c .args .t1 .group) (c .args .timer) 0) × (getD (c .args .t1 .group) (c .args .timer) 0 ≤ c .args .t1 .top) × (c .args .t1 .top ≤ 3)
 gone c =
     let s = c .args .t1 in
-    let h = held s (c .pre .0) in
+    let h = holds s (c .pre .0) in
     let x = c .args .timer in
     (alone-pos s (view s) h x (c .pre .2), group-top s (view s) h x, top-few s (view s) h)
 
@@ -48,7 +48,7 @@ returns : tie.Need-returns
 returns c =
     let start = c .before .before .before .before in
     let s = start .args .t1 in
-    let h = held s (start .pre .0) in
+    let h = holds s (start .pre .0) in
     rw (c .before .all-lowered .ensures, c .merged .ensures) (reset-alone-is s (view s) h (start .args .timer) (start .pre .2))
 
 pub reset-alone-spec : {M : Type 1} → statement M

@@ -14,7 +14,7 @@ use Rattle.semantics.specs.Regions.Lengths.{leave-top, arrive-timers, arrive-to
 use Rattle.regions.specs.declared.Region.{Region}
 use Rattle.regions.specs.Arrays.{mapTo}
 use Rattle.regions.specs.Held.{pack}
-use Rattle.regions.specs.Laws.Fields.{packed, Holds, timers-is, group-length, top-is, whole-is, group-is, prices-is, price-count, price-at, group-at, top-few, top-fewer, top-above}
+use Rattle.regions.specs.Laws.Fields.{packed, Holds, timers-is, group-length, top-is, whole-is, group-is, prices-is, prices-many, price-at, group-at, top-few, top-fewer, top-above}
 use Rattle.regions.proofs.Pads.{map-pad, mapTo-pad, clear-pad, set-pad, snoc-pad, risen-pad, tail-pad, merge-pad, zeros-pad}
 
 -- A struct by its fields.
@@ -41,7 +41,7 @@ module _ (r : PricedRegion) (rate : ℕ) where
 
 module _ (s : Region) (r : PricedRegion) (h : Holds s r) where
   prices-few : length (r .prices) ≤ 4
-  prices-few = omega (arith, price-count s r h, top-few s r h)
+  prices-few = omega (arith, prices-many s r h, top-few s r h)
 
   pub charged-is :
       (price : ℕ) → struct (s .timers) (s .top) (s .whole) (s .group) (mapTo (λ c. c + price) (s .top + 1) (s .prices)) ≡ pack (charge price r)
@@ -51,7 +51,7 @@ module _ (s : Region) (r : PricedRegion) (h : Holds s r) where
       (top-is s r h ∙ ap pred (sym (charge-prices r price)))
       (whole-is s r h)
       (group-is s r h)
-      (rw (prices-is s r h) (mapTo-pad 4 (r .prices) (λ c. c + price) (s .top + 1) (price-count s r h)))
+      (rw (prices-is s r h) (mapTo-pad 4 (r .prices) (λ c. c + price) (s .top + 1) (prices-many s r h)))
 
   pub lingered-is :
       (rate : ℕ) → noZero r ≡ true
@@ -79,7 +79,7 @@ module _ (s : Region) (r : PricedRegion) (h : Holds s r) where
       (omega (arith, leave-top r (h .wellFormed) rate, top-is s r h))
       (whole-is s r h)
       (rw (group-is s r h) (mapTo-pad 3 (r .group) suc (s .timers) (group-length s r h)))
-      (rw (price-at s r h 0, prices-is s r h) (snoc-pad 4 (r .prices) (s .top + 1) _ (price-count s r h) (omega (arith, top-fewer s r h (zero-some r z)))))
+      (rw (price-at s r h 0, prices-is s r h) (snoc-pad 4 (r .prices) (s .top + 1) _ (prices-many s r h) (omega (arith, top-fewer s r h (zero-some r z)))))
 
   pub arrived-is :
       noZero r ≡ true
@@ -116,7 +116,7 @@ module _ (s : Region) (r : PricedRegion) (h : Holds s r) where
     reset-alone-is a =
         let g = getD (r .group) x 0 in
         let b : suc (top r - g) < length (r .prices) = merged-in (length (r .prices)) g (alone-true x (r .group) a .0) (h .wellFormed .below x) in
-        let k : s .top - 1 ≡ pred (length (merge (top r - g) (r .prices))) = omega (arith, price-count s r h, length-merge (top r - g) (r .prices) b) in
+        let k : s .top - 1 ≡ pred (length (merge (top r - g) (r .prices))) = omega (arith, prices-many s r h, length-merge (top r - g) (r .prices) b) in
         packed _ (resetAlone x r) (timers-is s r h ∙ sym (length-set (r .whole) x 0))
         k
         (rw (whole-is s r h) (clear-pad 3 (r .whole) x))

@@ -2,7 +2,7 @@
 -- Assumes nothing.
 use mathlib.Core.Path.{_≡_, refl, ap, _∙_, sym}
 use mathlib.Core.Bool.{Bool, true, _&&_}
-use mathlib.Core.List.{List, [], _∷_, List·Memᴰ}
+use mathlib.Core.List.{List, [], _∷_}
 use Prim.Native.Nat.{ℕ, zero, suc, _+_, _-_, _*_, _/_, _%_, _<_, _≤_, max}
 use native.Mathlib.Omega.{arith}
 use borrow.Author.Tests.{eqb-true}
@@ -13,28 +13,24 @@ use Rattle.semantics.specs.Corner.{Corner, cornerOf, corners, cornerCount, same
 use Rattle.semantics.specs.Regions.Compare.{and-true-iff}
 use Rattle.semantics.specs.Corners.Every.{everyFrom, every-at}
 use Rattle.semantics.specs.Corners.Count.{corners-length}
-use Rattle.semantics.specs.Corners.Complete.{corner-listed}
-use Rattle.semantics.specs.Corners.Number.{sameList-eq, number-below, cornerAt-number}
+use Rattle.semantics.specs.Corners.Number.{sameList-eq}
 use Rattle.regions.specs.declared.Region.{Region}
 use Rattle.regions.specs.declared.CornerAt.{CornerAt}
 use Rattle.regions.specs.Held.{pad, highest, packCorner}
-use Rattle.regions.specs.Laws.Fields.{Holds, timers-is, price-count, group-at}
+use Rattle.regions.specs.Laws.Fields.{Holds, group-at}
+use Rattle.regions.specs.Laws.Corners.{corner-below, corner-again}
 
--- A test that holds for one, two and three timers.
-tested : (test : ℕ → Bool) → test 1 ≡ true → test 2 ≡ true → test 3 ≡ true → (n : ℕ) → 0 < n → n ≤ 3 → test n ≡ true
-tested test a b c zero p h = absurd (omega arith)
-tested test a b c (suc zero) p h = a
-tested test a b c (suc (suc zero)) p h = b
-tested test a b c (suc (suc (suc zero))) p h = c
-tested test a b c (suc (suc (suc (suc n)))) p h = absurd (omega arith)
+-- What holds for no timer, one, two and three holds for every number of timers that the code takes.
+up-to-three : (P : ℕ → Type 0) → P 0 → P 1 → P 2 → P 3 → (n : ℕ) → n ≤ 3 → P n
+up-to-three P a b c d zero h = a
+up-to-three P a b c d (suc zero) h = b
+up-to-three P a b c d (suc (suc zero)) h = c
+up-to-three P a b c d (suc (suc (suc zero))) h = d
+up-to-three P a b c d (suc (suc (suc (suc n)))) h = absurd (omega arith)
 
--- The table of counts follows the rule, which holds for any number of timers.
+-- The table CORNERS follows the rule, which holds for any number of timers.
 pub counts-right : (n : ℕ) → n ≤ 3 → getD (1 ∷ 3 ∷ 13 ∷ 75 ∷ []) n 0 ≡ cornerCount n 1
-counts-right zero h = refl
-counts-right (suc zero) h = refl
-counts-right (suc (suc zero)) h = refl
-counts-right (suc (suc (suc zero))) h = refl
-counts-right (suc (suc (suc (suc n)))) h = absurd (omega arith)
+counts-right = up-to-three (λ n. getD (1 ∷ 3 ∷ 13 ∷ 75 ∷ []) n 0 ≡ cornerCount n 1) refl refl refl refl
 
 -- An entry of a table in rows.
 abbrev entry : List (List ℕ) → ℕ → ℕ → ℕ
@@ -59,26 +55,22 @@ numbered n c = entry firsts (n - 1 + getD (c .group) 2 0) (4 * getD (c .group) 0
 numberTest : ℕ → Bool
 numberTest n = everyFrom (λ i c. eqb (numbered n c) i) 0 (corners n)
 
-numbers-right : (n : ℕ) → 0 < n → n ≤ 3 → numberTest n ≡ true
+numbers-right : (n : ℕ) → n ≤ 3 → numberTest n ≡ true
 unfolding numberTest
-numbers-right = tested numberTest refl refl refl
+numbers-right = up-to-three (λ n. numberTest n ≡ true) refl refl refl refl
 
-number-right : (n i : ℕ) → 0 < n → n ≤ 3 → i < cornerCount n 1 → numbered n (cornerAt n i) ≡ i
+number-right : (n i : ℕ) → n ≤ 3 → i < cornerCount n 1 → numbered n (cornerAt n i) ≡ i
 unfolding numberTest cornerAt
-number-right n i some few there =
-    eqb-true _ i (every-at (λ k c. eqb (numbered n c) k) (corners n) (numbers-right n some few) i _ (rw (corners-length n) there))
+number-right n i few there =
+    eqb-true _ i (every-at (λ k c. eqb (numbered n c) k) (corners n) (numbers-right n few) i _ (rw (corners-length n) there))
 
 pub number-is :
     (s : Region) (r : PricedRegion) → Holds s r → (j : ℕ) → j ≤ s .top
     → entry firsts (s .timers - 1 + getD (s .group) 2 0) (4 * getD (s .group) 0 0 + getD (s .group) 1 0) + j ≡ cornerNumber (s .timers) (cornerOf r j)
-number-is s r h j b =
-    let n = s .timers in
-    let c = cornerOf r j in
+number-is s r h j there =
     let at = group-at s r h in
-    let some : 0 < n = omega (arith, timers-is s r h, h .wellFormed .some) in
-    let listed : List·Memᴰ c (corners n) = rw (timers-is s r h) (corner-listed r (h .wellFormed) j (omega (arith, price-count s r h))) in
     rw (at 0, at 1, at 2)
-    (ap (numbered n) (sym (cornerAt-number n c listed)) ∙ number-right n (cornerNumber n c) some (h .few) (number-below n c listed))
+    (ap (numbered (s .timers)) (sym (corner-again s r h j there)) ∙ number-right (s .timers) _ (h .few) (corner-below s r h j there))
 
 -- The code's tables ROW and CORNER.
 abbrev rows : List ℕ
@@ -129,19 +121,20 @@ holds-corner r c e =
 cornerTest : ℕ → Bool
 cornerTest n = everyFrom (λ i c. holdsCorner (decoded (coded n i)) c) 0 (corners n)
 
-corners-right : (n : ℕ) → 0 < n → n ≤ 3 → cornerTest n ≡ true
+corners-right : (n : ℕ) → n ≤ 3 → cornerTest n ≡ true
 unfolding cornerTest holdsCorner
-corners-right = tested cornerTest refl refl refl
+corners-right = up-to-three (λ n. cornerTest n ≡ true) refl refl refl refl
 
-pub corner-is : (n i : ℕ) → 1 ≤ n → n ≤ 3 → i < cornerCount n 1 → decoded (coded n i) ≡ packCorner (cornerAt n i)
+pub corner-is : (n i : ℕ) → n ≤ 3 → i < cornerCount n 1 → decoded (coded n i) ≡ packCorner (cornerAt n i)
 unfolding cornerTest cornerAt
-corner-is n i some few there =
-    holds-corner _ _ (every-at (λ k c. holdsCorner (decoded (coded n k)) c) (corners n) (corners-right n some few) i _ (rw (corners-length n) there))
+corner-is n i few there =
+    holds-corner _ _ (every-at (λ k c. holdsCorner (decoded (coded n k)) c) (corners n) (corners-right n few) i _ (rw (corners-length n) there))
 
 -- The row is in the table.
-pub row-in : (n i : ℕ) → 1 ≤ n → n ≤ 3 → i < cornerCount n 1 → getD rows n 0 + i / 8 < 13
-row-in zero i p h b = absurd (omega arith)
-row-in (suc zero) i p h b = let c : i < 3 = b in omega arith
-row-in (suc (suc zero)) i p h b = let c : i < 13 = b in omega arith
-row-in (suc (suc (suc zero))) i p h b = let c : i < 75 = b in omega arith
-row-in (suc (suc (suc (suc n)))) i p h b = absurd (omega arith)
+pub row-in : (n : ℕ) → n ≤ 3 → (i : ℕ) → i < cornerCount n 1 → getD rows n 0 + i / 8 < 13
+row-in =
+    up-to-three (λ n. (i : ℕ) → i < cornerCount n 1 → getD rows n 0 + i / 8 < 13)
+    (λ i h. let b : i < 1 = h in omega arith)
+    (λ i h. let b : i < 3 = h in omega arith)
+    (λ i h. let b : i < 13 = h in omega arith)
+    (λ i h. let b : i < 75 = h in omega arith)

@@ -155,7 +155,7 @@ impl Region {
 
     // The corner with a number, among the corners of a cell.
     pub fn corner_at(timers: usize, number: usize) -> CornerAt
-        requires { ⌜ (0 < timers) × (timers ≤ mostTimers) × (number < cornerCount timers 1) ⌝ }
+        requires { ⌜ (timers ≤ mostTimers) × (number < cornerCount timers 1) ⌝ }
         ensures { λ r. ⌜ r ≡ packCorner (cornerAt timers number) ⌝ }
     {
         let row = tables::CORNER[wide(tables::ROW[timers]) + number / 8];

@@ -1,19 +1,33 @@
--- What a caller may conclude of a corner that was found by its number: the regions to which it belongs.
+-- What a caller may conclude of corners and their numbers: `corner` and `corner_at` are inverse to each other, and the corner with a number
+-- belongs to the regions of its groups.
 -- Assumes nothing.
 use mathlib.Core.Path.{_≡_, refl, ap, _∙_, sym}
-use mathlib.Core.List.{List, [], _∷_}
+use mathlib.Core.List.{List, [], _∷_, List·Memᴰ}
 use Prim.Native.Nat.{ℕ, zero, suc, pred, _<_, _≤_, zero-le}
 use native.Mathlib.Decide.{decLt}
 use native.Mathlib.Omega.{arith}
 use lib.ListN.{length, getD, replicate, length-replicate}
 use Rattle.semantics.specs.Region.{PricedRegion, WellFormed, top}
-use Rattle.semantics.specs.Corner.{cornerCount, cornerAt}
+use Rattle.semantics.specs.Corner.{cornerOf, corners, cornerCount, cornerNumber, cornerAt}
 use Rattle.semantics.specs.Regions.Count.{count-place}
 use Rattle.semantics.specs.Regions.Groups.{top-full}
 use Rattle.semantics.specs.Regions.Lengths.{prices-top}
-use Rattle.semantics.specs.Corners.Complete.{IsCorner, corners-sound}
-use Rattle.semantics.specs.Corners.Number.{cornerAt-listed}
+use Rattle.semantics.specs.Corners.Complete.{IsCorner, corner-listed, corners-sound}
+use Rattle.semantics.specs.Corners.Number.{cornerAt-listed, number-below, cornerAt-number}
+use Rattle.regions.specs.declared.Region.{Region}
 use Rattle.regions.specs.Held.{highest}
+use Rattle.regions.specs.Laws.Fields.{Holds, timers-is, prices-many}
+
+module _ (s : Region) (r : PricedRegion) (h : Holds s r) (j : ℕ) (there : j ≤ s .top) where
+  pub corner-listed-at : List·Memᴰ (cornerOf r j) (corners (s .timers))
+  corner-listed-at = rw (timers-is s r h) (corner-listed r (h .wellFormed) j (omega (arith, prices-many s r h)))
+
+  pub corner-below : cornerNumber (s .timers) (cornerOf r j) < cornerCount (s .timers) 1
+  corner-below = number-below (s .timers) (cornerOf r j) corner-listed-at
+
+  -- The corner with the number of a corner is that corner. (The other way round: `number-cornerAt` of the definitions' theorems.)
+  pub corner-again : cornerAt (s .timers) (cornerNumber (s .timers) (cornerOf r j)) ≡ cornerOf r j
+  corner-again = cornerAt-number (s .timers) (cornerOf r j) corner-listed-at
 
 -- The greatest is at or above each entry, and below a bound of all.
 highest-above : (l : List ℕ) (i : ℕ) → getD l i 0 ≤ highest l
@@ -42,8 +56,8 @@ module _ (n i : ℕ) (some : 0 < n) (there : i < cornerCount n 1) where
   is-corner = corners-sound n (cornerAt n i) some (cornerAt-listed n i there)
 
   -- How many prices the regions of the corner have: as many as groups, with r0.
-  price-count : is-corner .prices ≡ suc (highest (cornerAt n i .group))
-  price-count =
+  corner-prices : is-corner .prices ≡ suc (highest (cornerAt n i .group))
+  corner-prices =
       let m = is-corner .prices in
       let r : PricedRegion = record { whole = replicate n 0; group = cornerAt n i .group; prices = replicate m 0 } in
       let many = length-replicate {A = ℕ} m 0 in
@@ -54,8 +68,8 @@ module _ (n i : ℕ) (some : 0 < n) (there : i < cornerCount n 1) where
   pub corner-well-formed :
       (whole prices : List ℕ) → length whole ≡ n → length prices ≡ suc (highest (cornerAt n i .group))
       → WellFormed (record { whole = whole; group = cornerAt n i .group; prices = prices })
-  corner-well-formed whole prices e p = is-corner .well-formed _ e refl (p ∙ sym price-count)
+  corner-well-formed whole prices e p = is-corner .well-formed _ e refl (p ∙ sym corner-prices)
 
   -- The corner's price is one of them.
   pub corner-inside : cornerAt n i .index ≤ highest (cornerAt n i .group)
-  corner-inside = omega (arith, is-corner .inside, price-count)
+  corner-inside = omega (arith, is-corner .inside, corner-prices)

@@ -53,8 +53,8 @@ module _ (s : Region) (r : PricedRegion) (h : Holds s r) where
   unfolding pack
   prices-is = ap (λ (t : Region). t .prices) (h .is)
 
-  pub price-count : length (r .prices) ≡ s .top + 1
-  price-count = prices-top r (h .wellFormed .priced) ∙ ap suc (sym top-is) ∙ sym (add-one (s .top))
+  pub prices-many : length (r .prices) ≡ s .top + 1
+  prices-many = prices-top r (h .wellFormed .priced) ∙ ap suc (sym top-is) ∙ sym (add-one (s .top))
 
   -- What is read from an array is what is read from the list.
   pub whole-at : (i : ℕ) → getD (s .whole) i 0 ≡ getD (r .whole) i 0
@@ -68,10 +68,10 @@ module _ (s : Region) (r : PricedRegion) (h : Holds s r) where
 
   -- There is an entry for the price of each corner, and one more where r0 holds a timer.
   pub top-few : s .top ≤ 3
-  top-few = omega (arith, groups-few r (h .wellFormed), price-count, timers-is, h .few)
+  top-few = omega (arith, groups-few r (h .wellFormed), prices-many, timers-is, h .few)
 
   pub top-fewer : 0 < count 0 (r .group) → s .top < 3
-  top-fewer z = omega (arith, groups-fewer r (h .wellFormed) z, price-count, timers-is, h .few)
+  top-fewer z = omega (arith, groups-fewer r (h .wellFormed) z, prices-many, timers-is, h .few)
 
   -- Where r0 is empty there is another group.
   pub top-above : count 0 (r .group) ≡ 0 → 0 < s .top
@@ -79,7 +79,7 @@ module _ (s : Region) (r : PricedRegion) (h : Holds s r) where
 
   -- No group's number is above the highest one's.
   pub group-top : (i : ℕ) → getD (s .group) i 0 ≤ s .top
-  group-top i = omega (arith, group-at i, price-count, h .wellFormed .below i)
+  group-top i = omega (arith, group-at i, prices-many, h .wellFormed .below i)
 
   pub group-few : (i : ℕ) → getD (s .group) i 0 ≤ 3
   group-few i = omega (arith, group-top i, top-few)

@@ -11,7 +11,7 @@ use Rattle.regions.proofs.Region.corner_at.Tie as tie
 inside : (c : tie.After-wide) → c .wide .result + c .before .args .number / 8 < 13
 inside c =
     let start = c .before in
-    rw (c .wide .ensures .0) (row-in (start .args .timers) (start .args .number) (start .pre .0) (start .pre .1) (start .pre .2))
+    rw (c .wide .ensures .0) (row-in (start .args .timers) (start .pre .0) (start .args .number) (start .pre .1))
 
 array-read-wide : tie.Need-array-read-wide
 array-read-wide c = search needs
@@ -44,7 +44,7 @@ returns : tie.Need-returns
 returns c =
     let start = c .before .before .before .before .before in
     rw (c .greatest2 .ensures, c .before .greatest .ensures, c .before .before .wide2 .ensures .0, c .before .before .before .before .wide .ensures .0)
-    (corner-is (start .args .timers) (start .args .number) (start .pre .0) (start .pre .1) (start .pre .2))
+    (corner-is (start .args .timers) (start .args .number) (start .pre .0) (start .pre .1))
 
 pub corner-at-spec : {M : Type 1} → statement M
 corner-at-spec =

@@ -28,7 +28,7 @@ abbrev pub cellCount : List ℕ → ℕ
 cellCount [] = 1
 cellCount (ceiling ∷ ceilings) = cellCount ceilings * factor ceiling
 
--- E.
+-- Document 01's E: how many nodes there are.
 unfoldable pub nodeCount : Automaton → ℕ
 nodeCount a = length (a .modes) * cellCount (a .ceilings) * cornerCount (timers a) 1
 

@@ -2,7 +2,7 @@
 -- Assumes nothing.
 use mathlib.Core.Path.{_≡_, refl, subst, subst₂}
 use mathlib.Core.List.{List, _∷_, map, List·Memᴰ, Memᴰ·append-left, Memᴰ·append-right, Memᴰ·map}
-use Prim.Native.Nat.{ℕ, zero, suc, pred, _<_}
+use Prim.Native.Nat.{ℕ, zero, suc, pred, _<_, _≤_}
 use native.Mathlib.Nat.{le-of-suc-le-suc}
 use native.Mathlib.Omega.{arith}
 use native.Mathlib.Decide.{decLt, ℕ-discrete}
@@ -59,7 +59,8 @@ module _ (b x : ℕ) (g : List ℕ) (c : Blocks b g) where
           rw (count-other x y (map (raised x) g) n) (omega (arith, count-map (raised x) y y (raised-low x y l) g, c .full y (omega arith)))
       full zero p (no n) (no l) = absurd (omega arith)
       full (suc y) p (no n) (no l) =
-          rw (count-other x (suc y) (map (raised x) g) n) (omega (arith, count-map (raised x) y (suc y) (raised-high x y (omega arith)) g, c .full y (omega arith)))
+          rw (count-other x (suc y) (map (raised x) g) n)
+          (omega (arith, count-map (raised x) y (suc y) (raised-high x y (omega arith)) g, c .full y (omega arith)))
 
 -- A weak order without its first timer.
 pub record Removed (b x : ℕ) (g : List ℕ) : Type 0 where
@@ -108,16 +109,19 @@ module _ (b x : ℕ) (g : List ℕ) (c : Blocks b (x ∷ g)) where
       below i h =
           let k : i < length g = rw (length-map g (lowered x)) at h in
           let n : (getD g i 0 ≡ x → ⊥) = λ e. omega (arith, count-pos x i g k e) in
-          rw (getD-map (lowered x) g i k) (lowered-below x (getD g i 0) (pred b) n (omega (arith, c .below (suc i) (omega arith))) (omega (arith, x-in)))
+          let h : getD g i 0 ≤ pred b = omega (arith, c .below (suc i) (omega arith)) in
+          rw (getD-map (lowered x) g i k) (lowered-below x (getD g i 0) (pred b) n h (omega (arith, x-in)))
 
       full : (y : ℕ) → y < pred b → 0 < count y (map (lowered x) g)
       full y h = go (decLt y x)
         where
           go : Dec (y < x) → 0 < count y (map (lowered x) g)
           go (yes p) =
-              omega (arith, count-map (lowered x) y y (lowered-low x y (omega arith)) g, count-other x y g (λ e. omega arith), c .full y (omega arith))
+              let m = count-map (lowered x) y y (lowered-low x y (omega arith)) g in
+              omega (arith, count-other x y g (λ e. omega arith), c .full y (omega arith))
           go (no p) =
-              omega (arith, count-map (lowered x) (suc y) y (lowered-high x y (omega arith)) g, count-other x (suc y) g (λ e. omega arith), c .full (suc y) (omega arith))
+              let m = count-map (lowered x) (suc y) y (lowered-high x y (omega arith)) g in
+              omega (arith, count-other x (suc y) g (λ e. omega arith), c .full (suc y) (omega arith))
 
   pub removed : Removed b x g
   removed = go (decLt 0 (count x g))

@@ -62,7 +62,8 @@ module _ (r : PricedRegion) (w : WellFormed r) where
 
   pub open-order : count 0 (r .group) ≡ 0 → List·Memᴰ (openOrder r) (weakOrders (length (r .whole)))
   open-order z =
-      weakOrders-complete (length (r .whole)) (top r) (map pred (r .group)) (length-map (r .group) pred ∙ w .paired) (record { below = below; full = full })
+      weakOrders-complete (length (r .whole)) (top r) (map pred (r .group)) (length-map (r .group) pred ∙ w .paired)
+      (record { below = below; full = full })
     where
       below : (i : ℕ) → i < length (map pred (r .group)) → getD (map pred (r .group)) i 0 < top r
       below i h =
@@ -167,7 +168,8 @@ corners-sound n c pos m =
 -- Two weak orders with the same blocks are the same.
 order-once : (n : ℕ) (v w : WeakOrder) → List·Memᴰ v (weakOrders n) → List·Memᴰ w (weakOrders n) → v .block ≡ w .block → v ≡ w
 order-once n v w m k e =
-    let p = blocks-unique (v .blocks) (w .blocks) (w .block) (subst (Blocks (v .blocks)) e (weakOrders-sound n v m .0)) (weakOrders-sound n w k .0) in
+    let b = subst (Blocks (v .blocks)) e (weakOrders-sound n v m .0) in
+    let p = blocks-unique (v .blocks) (w .blocks) (w .block) b (weakOrders-sound n w k .0) in
     λ i. record { blocks = p i; block = e i }
 
 -- Nothing is in the list twice.
@@ -175,11 +177,15 @@ pub corners-distinct : (n : ℕ) → Distinct (corners n)
 corners-distinct n =
     distinct-append (flatMap zeroCorners (weakOrders n)) (flatMap openCorners (weakOrders n))
     (distinct-flatMap zeroCorners (weakOrders n) (weakOrders-distinct n) (λ w m. distinct-regionCorners (w .block) (w .blocks))
-    (λ v w c m k p q. order-once n v w m k (sym (of-regionCorners (v .block) (v .blocks) c p .0) ∙ of-regionCorners (w .block) (w .blocks) c q .0)))
+    (λ v w c m k p q.
+    let e = of-regionCorners (v .block) (v .blocks) c p .0 in
+    let f = of-regionCorners (w .block) (w .blocks) c q .0 in
+    order-once n v w m k (sym e ∙ f)))
     (distinct-flatMap openCorners (weakOrders n) (weakOrders-distinct n) (λ w m. distinct-regionCorners (map suc (w .block)) (suc (w .blocks)))
     (λ v w c m k p q.
-    order-once n v w m k
-    (map-suc-once (v .block) (w .block) (sym (of-regionCorners (map suc (v .block)) (suc (v .blocks)) c p .0) ∙ of-regionCorners (map suc (w .block)) (suc (w .blocks)) c q .0))))
+    let e = of-regionCorners (map suc (v .block)) (suc (v .blocks)) c p .0 in
+    let f = of-regionCorners (map suc (w .block)) (suc (w .blocks)) c q .0 in
+    order-once n v w m k (map-suc-once (v .block) (w .block) (sym e ∙ f))))
     apart
   where
     apart : (c : Corner) → List·Memᴰ c (flatMap zeroCorners (weakOrders n)) → List·Memᴰ c (flatMap openCorners (weakOrders n)) → ⊥

@@ -26,7 +26,9 @@ module _ {A : Type 0} where
       let p = and-true-iff (f b) (every f l) .0 t in
       ⊎-elim (λ e. subst (λ (x : A). f x ≡ true) (sym e) (p .0)) (every-mem f l (p .1) a) (List·Memᴰ·cases-cons m)
 
-  everyFrom-at : (f : ℕ → A → Bool) (l : List A) (i : ℕ) → everyFrom f i l ≡ true → (j : ℕ) (d : A) → j < length l → f (i + j) (getD l j d) ≡ true
+  everyFrom-at :
+      (f : ℕ → A → Bool) (l : List A) (i : ℕ) → everyFrom f i l ≡ true → (j : ℕ) (d : A) → j < length l
+      → f (i + j) (getD l j d) ≡ true
   everyFrom-at f [] i t j d h = absurd (not-suc-le-zero h)
   everyFrom-at f (a ∷ l) i t zero d h = rw (add-zero i) (and-true-iff (f i a) (everyFrom f (suc i) l) .0 t .0)
   everyFrom-at f (a ∷ l) i t (suc j) d h =

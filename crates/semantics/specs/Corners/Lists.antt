@@ -33,7 +33,9 @@ countFrom-bounds : (i n x : ℕ) → List·Memᴰ x (countFrom i n) → (i ≤ x
 countFrom-bounds i zero x m = absurd (List·Memᴰ·not-nil m)
 countFrom-bounds i (suc n) x m = go (countFrom-bounds (suc i) n x) (List·Memᴰ·cases-cons m)
   where
-    go : (List·Memᴰ x (countFrom (suc i) n) → (suc i ≤ x) × (x < suc i + n)) → (x ≡ i) ⊎ List·Memᴰ x (countFrom (suc i) n) → (i ≤ x) × (x < i + suc n)
+    go :
+        (List·Memᴰ x (countFrom (suc i) n) → (suc i ≤ x) × (x < suc i + n)) → (x ≡ i) ⊎ List·Memᴰ x (countFrom (suc i) n)
+        → (i ≤ x) × (x < i + suc n)
     go ih (inl e) = omega arith
     go ih (inr k) = let o = ih k in omega arith
 

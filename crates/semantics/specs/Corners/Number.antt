@@ -37,7 +37,9 @@ pub sameCorner-refl : (c : Corner) → sameCorner c c ≡ true
 sameCorner-refl c =
     and-true-iff (eqb (c .index) (c .index)) (sameList (c .group) (c .group)) .1 (eq-eqb (c .index) (c .index) refl, sameList-refl (c .group))
 
-place-case : (l : List Corner) (c d : Corner) (b : Bool) → sameCorner c d ≡ b → placeIn (d ∷ l) c ≡ elim b as (λ x. ℕ) [ true ↦ 0 | false ↦ suc (placeIn l c) ]
+place-case :
+    (l : List Corner) (c d : Corner) (b : Bool) → sameCorner c d ≡ b
+    → placeIn (d ∷ l) c ≡ elim b as (λ x. ℕ) [ true ↦ 0 | false ↦ suc (placeIn l c) ]
 place-case l c d b e = ap (λ (t : Bool). elim t as (λ x. ℕ) [ true ↦ 0 | false ↦ suc (placeIn l c) ]) e
 
 -- The place of a corner that is not the first entry.

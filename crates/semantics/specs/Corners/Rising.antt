@@ -19,7 +19,9 @@ use Rattle.semantics.specs.Corners.Piece.{Piece, piece-append, piece-rig
 use Rattle.semantics.specs.Corners.Complete.{zeroOrder, openOrder, zero-order, open-order, open-corners}
 use Rattle.semantics.specs.Corners.Number.{number-getD}
 
-getD-regionCorners : (g : List ℕ) (prices j : ℕ) → j < prices → getD (regionCorners g prices) j (record { group = g; index = 0 }) ≡ record { group = g; index = j }
+getD-regionCorners :
+    (g : List ℕ) (prices j : ℕ) → j < prices
+    → getD (regionCorners g prices) j (record { group = g; index = 0 }) ≡ record { group = g; index = j }
 getD-regionCorners g prices j h =
     List·getD-map (λ (i : ℕ). record { group = g; index = i }) (countFrom 0 prices) j 0
     ∙ ap (λ (i : ℕ). record { group = g; index = i }) (getD-countFrom 0 prices j 0 h ∙ zero-add j)
@@ -58,7 +60,8 @@ module _ (r : PricedRegion) (w : WellFormed r) where
   -- Where r0 is empty they are not.
   open-numbers :
       count 0 (r .group) ≡ 0
-      → (p : ℕ) × (zeroCount (length (r .whole)) ≤ p) × ((j : ℕ) → j < length (r .prices) → cornerNumber (length (r .whole)) (cornerOf r j) ≡ p + j)
+      → (p : ℕ) × (zeroCount (length (r .whole)) ≤ p)
+      × ((j : ℕ) → j < length (r .prices) → cornerNumber (length (r .whole)) (cornerOf r j) ≡ p + j)
   open-numbers z =
       let n = length (r .whole) in
       let o = piece-flatMap openCorners (weakOrders n) (openOrder r) (open-order r w z) in
@@ -90,5 +93,6 @@ module _ (r : PricedRegion) (w : WellFormed r) where
       omega (arith, o .1, o .2 j h, p .1, p .2 i k)
 
   -- Linger's edge from corner 0 to corner k of the same region, where r0 is empty.
-  pub linger-rises : count 0 (r .group) ≡ 0 → cornerNumber (length (r .whole)) (cornerOf r 0) < cornerNumber (length (r .whole)) (cornerOf r (top r))
+  pub linger-rises :
+      count 0 (r .group) ≡ 0 → cornerNumber (length (r .whole)) (cornerOf r 0) < cornerNumber (length (r .whole)) (cornerOf r (top r))
   linger-rises z = omega (arith, number-index (top r) (omega (arith, prices-top r (w .priced))), top-pos r w z)

@@ -34,21 +34,26 @@ made : (w v : WeakOrder) → List·Memᴰ v (extended w) → Made w v
 made w v m = go (List·Memᴰ·append-cases (map (joining w) (countFrom 0 (w .blocks))) m)
   where
     go : List·Memᴰ v (map (joining w) (countFrom 0 (w .blocks))) ⊎ List·Memᴰ v (map (opening w) (countFrom 0 (suc (w .blocks)))) → Made w v
-    go (inl k) = let o = Memᴰ·of-map (joining w) (countFrom 0 (w .blocks)) k in joins (o .0) (below-bound (w .blocks) (o .0) (o .1)) (sym (o .2))
-    go (inr k) = let o = Memᴰ·of-map (opening w) (countFrom 0 (suc (w .blocks))) k in opens (o .0) (below-bound (suc (w .blocks)) (o .0) (o .1)) (sym (o .2))
+    go (inl k) =
+        let o = Memᴰ·of-map (joining w) (countFrom 0 (w .blocks)) k in
+        joins (o .0) (below-bound (w .blocks) (o .0) (o .1)) (sym (o .2))
+    go (inr k) =
+        let o = Memᴰ·of-map (opening w) (countFrom 0 (suc (w .blocks))) k in
+        opens (o .0) (below-bound (suc (w .blocks)) (o .0) (o .1)) (sym (o .2))
 
 -- And nothing else is.
 pub weakOrders-sound : (n : ℕ) (w : WeakOrder) → List·Memᴰ w (weakOrders n) → Blocks (w .blocks) (w .block) × (length (w .block) ≡ n)
 weakOrders-sound zero w m =
-    let e = List·Memᴰ·eq-of-singleton m in (
-      subst (λ (v : WeakOrder). Blocks (v .blocks) (v .block)) (sym e) (record { below = λ i h. absurd (not-suc-le-zero h); full = λ x h. absurd (not-suc-le-zero h) }),
-      ap (λ (v : WeakOrder). length (v .block)) e,
-    )
+    let e = List·Memᴰ·eq-of-singleton m in
+    let b : Blocks 0 [] = record { below = λ i h. absurd (not-suc-le-zero h); full = λ x h. absurd (not-suc-le-zero h) } in
+    (subst (λ (v : WeakOrder). Blocks (v .blocks) (v .block)) (sym e) b, ap (λ (v : WeakOrder). length (v .block)) e)
 weakOrders-sound (suc n) v m =
     let o = mem-of-flatMap extended (weakOrders n) v m in
     go (o .0) (weakOrders-sound n (o .0) (o .1)) (made (o .0) v (o .2))
   where
-    go : (w : WeakOrder) → Blocks (w .blocks) (w .block) × (length (w .block) ≡ n) → Made w v → Blocks (v .blocks) (v .block) × (length (v .block) ≡ suc n)
+    go :
+        (w : WeakOrder) → Blocks (w .blocks) (w .block) × (length (w .block) ≡ n) → Made w v
+        → Blocks (v .blocks) (v .block) × (length (v .block) ≡ suc n)
     go w c (joins x h e) = (
       subst (λ (u : WeakOrder). Blocks (u .blocks) (u .block)) (sym e) (blocks-joining (w .blocks) x (w .block) (c .0) h),
       ap (λ (u : WeakOrder). length (u .block)) e ∙ ap suc (c .1),

@@ -22,7 +22,8 @@ module _ (a : Automaton) where
   pub nodeNumber-below : (x : Node) → IsNode a x → nodeNumber a x < nodeCount a
   unfolding nodeNumber nodeCount
   nodeNumber-below x n =
-      pair-below cornersOf (pair-below cellsOf (n .mode) (cellNumber-below (a .ceilings) (x .whole) (n .cell))) (number-below (timers a) (x .corner) (n .corner))
+      pair-below cornersOf (pair-below cellsOf (n .mode) (cellNumber-below (a .ceilings) (x .whole) (n .cell)))
+      (number-below (timers a) (x .corner) (n .corner))
 
   pub nodeAt-number : (x : Node) → IsNode a x → nodeAt a (nodeNumber a x) ≡ x
   unfolding nodeNumber nodeAt
@@ -33,8 +34,10 @@ module _ (a : Automaton) where
       let l = cellNumber-below (a .ceilings) (x .whole) (n .cell) in
       let q = pair-quotient cornersOf (x .mode * cellsOf + cell) place b in
       let m = ap (λ (i : ℕ). i / cellsOf) q ∙ pair-quotient cellsOf (x .mode) cell l in
-      let w = ap (λ (i : ℕ). cellAt (a .ceilings) (i % cellsOf)) q ∙ ap (cellAt (a .ceilings)) (pair-remainder cellsOf (x .mode) cell l) ∙ cellAt-number (a .ceilings) (x .whole) (n .cell) in
-      let c = ap (cornerAt (timers a)) (pair-remainder cornersOf (x .mode * cellsOf + cell) place b) ∙ cornerAt-number (timers a) (x .corner) (n .corner) in
+      let s = ap (λ (i : ℕ). i % cellsOf) q ∙ pair-remainder cellsOf (x .mode) cell l in
+      let w = ap (cellAt (a .ceilings)) s ∙ cellAt-number (a .ceilings) (x .whole) (n .cell) in
+      let p = pair-remainder cornersOf (x .mode * cellsOf + cell) place b in
+      let c = ap (cornerAt (timers a)) p ∙ cornerAt-number (timers a) (x .corner) (n .corner) in
       λ i. record { mode = m i; whole = w i; corner = c i }
 
   module _ (i : ℕ) (h : i < nodeCount a) where

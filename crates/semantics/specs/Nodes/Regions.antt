@@ -16,7 +16,9 @@ use Rattle.semantics.specs.Corners.Complete.{corner-listed}
 
 module _ (r : PricedRegion) (w : WellFormed r) where
   -- The whole parts are at or below the ceilings.
-  pub within-whole : (ceilings : List ℕ) → length ceilings ≤ length (r .whole) → within ceilings r ≡ true → (x : ℕ) → x < length ceilings → getD (r .whole) x 0 ≤ getD ceilings x 0
+  pub within-whole :
+      (ceilings : List ℕ) → length ceilings ≤ length (r .whole) → within ceilings r ≡ true → (x : ℕ) → x < length ceilings
+      → getD (r .whole) x 0 ≤ getD ceilings x 0
   within-whole ceilings l t x h =
       let p : suc (top r) * getD (r .whole) x 0 + getD (r .group) x 0 ≤ suc (top r) * getD ceilings x 0 =
       within-points r w ceilings l .0 t (suc (top r)) (pointOf r) (region-point r w) x h in

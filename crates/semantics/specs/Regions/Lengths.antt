@@ -126,5 +126,6 @@ module _ (r : PricedRegion) (w : WellFormed r) where
   -- A reset of a timer that is alone in its group leaves one price fewer.
   pub reset-alone-prices : (x : ℕ) → alone x (r .group) ≡ true → length (r .prices) ≡ suc (length (reset x r .prices))
   reset-alone-prices x a =
-      length-merge (top r - getD (r .group) x 0) (r .prices) (merged-in (length (r .prices)) (getD (r .group) x 0) (alone-true x (r .group) a .0) (w .below x))
+      length-merge (top r - getD (r .group) x 0) (r .prices)
+      (merged-in (length (r .prices)) (getD (r .group) x 0) (alone-true x (r .group) a .0) (w .below x))
       ∙ ap (λ (s : PricedRegion). suc (length (s .prices))) (sym (reset-alone x r a))

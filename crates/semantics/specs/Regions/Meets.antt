@@ -41,7 +41,9 @@ test-middle atMost v w g =
     (λ t. omega (arith, leb-true (high w g) v t), λ h. le-leb (high w g) v (omega arith))
 test-middle equal v w g = go (and-true-iff (eqb g 0) (eqb w v)) (high-cases w g)
   where
-    go : ((eqb g 0 && eqb w v) ≡ true) ↔ ((eqb g 0 ≡ true) × (eqb w v ≡ true)) → High w g → ((eqb g 0 && eqb w v) ≡ true) ↔ (w + high w g ≡ v + v)
+    go :
+        ((eqb g 0 && eqb w v) ≡ true) ↔ ((eqb g 0 ≡ true) × (eqb w v ≡ true)) → High w g
+        → ((eqb g 0 && eqb w v) ≡ true) ↔ (w + high w g ≡ v + v)
     go i (on z e) = (λ t. omega (arith, eqb-true w v (i .0 t .1)), λ h. i .1 (eq-eqb g 0 z, eq-eqb w v (omega arith)))
     go i (between z e) = (λ t. absurd (omega (arith, eqb-true g 0 (i .0 t .0))), λ h. absurd (omega arith))
 test-middle atLeast v w g =
@@ -75,7 +77,8 @@ module _ (r : PricedRegion) (q : ℕ) (u : ℕ → ℕ) (p : Point q u r) where
       let w = getD (r .whole) x 0 in
       let g = getD (r .group) x 0 in
       let e : u x ≡ q * w + u x % q = sym (div-add-mod (u x) q) ∙ ap (λ (n : ℕ). q * n + u x % q) (sym (p .integer x h)) in
-      let a = middle-alike q (u x) w (u x % q) g (c .value) e (mod-lt (u x) (p .from-one)) (p .at-zero x h) (high-cases w g) (order w (c .value)) in
+      let l = mod-lt (u x) (p .from-one) in
+      let a = middle-alike q (u x) w (u x % q) g (c .value) e l (p .at-zero x h) (high-cases w g) (order w (c .value)) in
       let t = test-middle (c .comparison) (c .value) w g in
       (λ m. alike-compares (c .comparison) (alike-sym a) (t .0 m), λ m. t .1 (alike-compares (c .comparison) a m))
 
@@ -88,7 +91,9 @@ module _ (r : PricedRegion) (q : ℕ) (u : ℕ → ℕ) (p : Point q u r) where
       let one = meets-point c (h c (List·Memᴰ·head refl)) in
       let rest = meetsAll-point cs (λ d m. h d (List·Memᴰ·tail m)) in (
         λ t d m.
-            ⊎-elim (λ e. subst (λ (b : Condition). Holds q b (u (b .timer))) (sym e) (one .0 (i .0 t .0))) (rest .0 (i .0 t .1) d) (List·Memᴰ·cases-cons m),
+            ⊎-elim (λ e. subst (λ (b : Condition). Holds q b (u (b .timer))) (sym e) (one .0 (i .0 t .0)))
+            (rest .0 (i .0 t .1) d)
+            (List·Memᴰ·cases-cons m),
         λ a. i .1 (one .1 (a c (List·Memᴰ·head refl)), rest .1 (λ d m. a d (List·Memᴰ·tail m))),
       )
 
@@ -102,15 +107,19 @@ module _ (r : PricedRegion) (q : ℕ) (u : ℕ → ℕ) (p : Point q u r) where
       let one = meets-point (record { timer = x; comparison = atMost; value = c }) (omega arith) in
       let rest = withinFrom-point (suc x) cs (omega arith) in (
         λ t. both (one .0 (i .0 t .0)) (rest .0 (i .0 t .1)),
-        λ a. i .1 (one .1 (rw add-zero at (a 0 (omega arith))), rest .1 (λ j l. subst (λ (y : ℕ). u y ≤ q * getD cs j 0) (sym (next j)) (a (suc j) (omega arith)))),
+        λ a.
+            let b : (j : ℕ) → j < length cs → u (suc x + j) ≤ q * getD cs j 0 = λ j l. rw (next j) (a (suc j) (omega arith)) in
+            i .1 (one .1 (rw add-zero at (a 0 (omega arith))), rest .1 b),
       )
     where
       next : (j : ℕ) → suc x + j ≡ x + suc j
       next j = omega arith
 
-      both : u x ≤ q * c → ((j : ℕ) → j < length cs → u (suc x + j) ≤ q * getD cs j 0) → (j : ℕ) → j < suc (length cs) → u (x + j) ≤ q * getD (c ∷ cs) j 0
+      both :
+          u x ≤ q * c → ((j : ℕ) → j < length cs → u (suc x + j) ≤ q * getD cs j 0) → (j : ℕ) → j < suc (length cs)
+          → u (x + j) ≤ q * getD (c ∷ cs) j 0
       both a b zero l = rw add-zero a
-      both a b (suc j) l = subst (λ (y : ℕ). u y ≤ q * getD cs j 0) (next j) (b j (le-of-suc-le-suc l))
+      both a b (suc j) l = rw (← next j) (b j (le-of-suc-le-suc l))
 
   pub within-point :
       (ceilings : List ℕ) → length ceilings ≤ length (r .whole)

@@ -42,8 +42,13 @@ module _ (r : PricedRegion) (wf : WellFormed r) where
   }
 
   -- What can be told from any one point can be told from all.
-  all-points : (Tested : Type 0) (Does : ℕ → (ℕ → ℕ) → Type 0) → ((q : ℕ) (u : ℕ → ℕ) → Point q u r → Tested ↔ Does q u) → Tested ↔ AllPoints r Does
-  all-points Tested Does one = (λ t q u p. one q u p .0 t, λ a. one (suc (top r)) (pointOf r) region-point .1 (a (suc (top r)) (pointOf r) region-point))
+  all-points :
+      (Tested : Type 0) (Does : ℕ → (ℕ → ℕ) → Type 0) → ((q : ℕ) (u : ℕ → ℕ) → Point q u r → Tested ↔ Does q u)
+      → Tested ↔ AllPoints r Does
+  all-points Tested Does one = (
+    λ t q u p. one q u p .0 t,
+    λ a. one (suc (top r)) (pointOf r) region-point .1 (a (suc (top r)) (pointOf r) region-point),
+  )
 
   -- "A region meets a condition if all its points do".
   pub meets-points : (c : Condition) → c .timer < length (r .whole) → (meets c r ≡ true) ↔ AllPoints r (λ q u. Holds q c (u (c .timer)))

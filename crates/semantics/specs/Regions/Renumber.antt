@@ -6,15 +6,12 @@ use mathlib.Core.Bool.{Bool, true, false, cond}
 use Prim.Native.Nat.{ℕ, suc, pred, _<_, _≤_, suc-le-suc}
 use native.Mathlib.Omega.{arith}
 use native.Mathlib.Decide.{decLt}
-use borrow.Author.Tests.{ne-eqb, eq-eqb, eqb-false, lt-ltb, le-ltb}
+use borrow.Author.Tests.{ne-eqb, eqb-false, lt-ltb, le-ltb}
 use lib.Dec.{eqb, ltb}
 
 -- Group k becomes r0.
 abbrev pub wrapped : ℕ → ℕ → ℕ
 wrapped k g = cond (eqb g k) 0 g
-
-pub wrapped-top : (k : ℕ) → wrapped k k ≡ 0
-wrapped-top k = rw (eq-eqb k k refl)
 
 pub wrapped-other : (k g : ℕ) → (g ≡ k → ⊥) → wrapped k g ≡ g
 wrapped-other k g n = rw (ne-eqb g k n)

@@ -4,7 +4,7 @@ use mathlib.Core.Path.{_≡_, refl, ap, _∙_, sym, subst}
 use mathlib.Core.Bool.{true, false}
 use mathlib.Core.Logic.{⊎-elim}
 use mathlib.Core.List.{List, [], _∷_, map, List·Memᴰ, List·Memᴰ·head, List·Memᴰ·tail}
-use Prim.Native.Nat.{ℕ, zero, suc, pred, _-_, _<_}
+use Prim.Native.Nat.{ℕ, zero, suc, pred, _-_, _<_, _≤_}
 use native.Mathlib.Nat.{le-of-suc-le-suc}
 use native.Mathlib.Omega.{arith}
 use native.Mathlib.Decide.{decLt, ℕ-discrete}
@@ -30,7 +30,9 @@ start-well-formed n p =
     }
 
 -- A region whose timers and groups are those of r, with as many prices.
-repriced : (r s : PricedRegion) → WellFormed r → s .whole ≡ r .whole → s .group ≡ r .group → length (s .prices) ≡ length (r .prices) → WellFormed s
+repriced :
+    (r s : PricedRegion) → WellFormed r → s .whole ≡ r .whole → s .group ≡ r .group → length (s .prices) ≡ length (r .prices)
+    → WellFormed s
 repriced r s w a b e =
     record {
       some = rw a (w .some);
@@ -84,10 +86,13 @@ module _ (r : PricedRegion) (w : WellFormed r) where
         some = rw (t .whole) (w .some);
         paired = t .group ∙ w .paired ∙ sym (t .whole);
         priced = rw e p;
-        below = λ i. rw e (map-below (wrapped (top r)) (top r) p (r .group) (λ j b. wrapped-below (top r) (getD (r .group) j 0) p (omega (arith, w .below j, prices-top r (w .priced)))) i);
+        below = λ i. rw e (map-below (wrapped (top r)) (top r) p (r .group) (λ j b. wrapped-below (top r) (getD (r .group) j 0) p (highest j)) i);
         full = λ g a b. full g a (rw e at b);
       }
     where
+      highest : (j : ℕ) → getD (r .group) j 0 ≤ top r
+      highest j = omega (arith, w .below j, prices-top r (w .priced))
+
       full : (g : ℕ) → 0 < g → g < pred (length (r .prices)) → 0 < count g (map (wrapped (top r)) (r .group))
       full g a b =
           omega (arith, count-map (wrapped (top r)) g g (wrapped-other (top r) g (λ e. omega arith)) (r .group), w .full g a (omega arith))
@@ -174,11 +179,11 @@ module _ (r : PricedRegion) (w : WellFormed r) where
           where
             go : Dec (g < gone) → 0 < count g (map (lowered gone) group′)
             go (yes h) =
-                omega
-                (arith, count-map (lowered gone) g g (lowered-low gone g (omega arith)) group′, count-set-other g 0 x (r .group) (λ e. omega arith), w .full g p (omega (arith, fewer)))
+                let m = count-map (lowered gone) g g (lowered-low gone g (omega arith)) group′ in
+                omega (arith, count-set-other g 0 x (r .group) (λ e. omega arith), w .full g p (omega (arith, fewer)))
             go (no h) =
-                omega
-                (arith, count-map (lowered gone) (suc g) g (lowered-high gone g (omega arith)) group′, count-set-other (suc g) 0 x (r .group) (λ e. omega arith), w .full (suc g) (omega arith) (omega (arith, fewer)))
+                let m = count-map (lowered gone) (suc g) g (lowered-high gone g (omega arith)) group′ in
+                omega (arith, count-set-other (suc g) 0 x (r .group) (λ e. omega arith), w .full (suc g) (omega arith) (omega (arith, fewer)))
 
     pub reset-well-formed : WellFormed (reset x r)
     reset-well-formed =

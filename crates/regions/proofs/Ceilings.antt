@@ -1,70 +1,60 @@
--- What the loop over the ceilings finds, said of the region that the struct holds.
+-- What the loop over the ceilings has found after a turn: the tests that are left decide.
 -- Assumes nothing.
-use mathlib.Core.Path.{_≡_, refl, ap, ap₂, _∙_, sym, subst}
-use mathlib.Core.Bool.{Bool, true, false, true≢false}
-use mathlib.Core.Logic.{_↔_}
+use mathlib.Core.Path.{_≡_, refl, ap, ap₂, _∙_}
+use mathlib.Core.Bool.{Bool, true, false, _&&_}
 use mathlib.Core.List.{List, [], _∷_}
-use Prim.Native.Nat.{ℕ, zero, suc, _+_, _<_}
-use native.Mathlib.Nat.{not-suc-le-zero, le-of-suc-le-suc, add-zero, zero-add, add-suc, suc-add}
+use Prim.Native.Nat.{ℕ, suc, _+_, _<_, _≤_}
+use native.Mathlib.Numerals.{add-one}
 use native.Mathlib.Omega.{arith}
 use lib.Dec.{leb}
-use lib.ListN.{length, getD, take}
-use lib.Seq.{length-take-le, getD-take}
+use lib.ListN.{length, getD, take, drop, drop-of-length-le}
+use lib.Seq.{length-take-le, getD-take, drop-cons}
 use Rattle.semantics.specs.Region.{PricedRegion, high, meets, withinFrom, within}
-use Rattle.semantics.specs.Regions.Compare.{and-true-iff}
 use Rattle.regions.specs.declared.Region.{Region}
 use Rattle.regions.specs.Held.{view, Valid}
 use Rattle.regions.specs.Laws.Fields.{holds, whole-at, group-at}
 
 -- The test of one ceiling.
-abbrev pub low : List ℕ → List ℕ → ℕ → ℕ → Bool
+abbrev low : List ℕ → List ℕ → ℕ → ℕ → Bool
 low ws gs x ceiling = leb (high (getD ws x 0) (getD gs x 0)) ceiling
 
--- A region is within its ceilings exactly if the test of each holds.
-module _ (r : PricedRegion) where
-  at-low : ℕ → ℕ → Type 0
-  at-low x ceiling = low (r .whole) (r .group) x ceiling ≡ true
+-- The tests of the first n ceilings but the first x, on the arrays.
+abbrev pub left : ℕ → ℕ → List ℕ → List ℕ → List ℕ → Bool
+left n x cs ws gs = withinFrom x (drop x (take n cs)) (record { whole = ws; group = gs; prices = [] })
 
-  within-from : (x : ℕ) (cs : List ℕ) → (withinFrom x cs r ≡ true) ↔ ((i : ℕ) → i < length cs → at-low (x + i) (getD cs i 0))
-  unfolding meets at-low
-  within-from x [] = (λ e i b. absurd (not-suc-le-zero b), λ h. refl)
-  within-from x (c ∷ cs) =
-      let both = and-true-iff (low (r .whole) (r .group) x c) (withinFrom (suc x) cs r) in
-      let rest = within-from (suc x) cs in
-      let next : (i : ℕ) → suc x + i ≡ x + suc i = λ i. suc-add x i ∙ sym (add-suc x i) in (
-        λ e. split (both .0 e .0) (λ i b. subst (λ (y : ℕ). at-low y (getD cs i 0)) (next i) (rest .0 (both .0 e .1) i b)),
-        λ h. both .1 (subst (λ (y : ℕ). at-low y c) (add-zero x) (h 0 (omega arith)), rest .1 (λ i b. subst (λ (y : ℕ). at-low y (getD cs i 0)) (sym (next i)) (h (suc i) (omega arith)))),
-      )
-    where
-      split : at-low x c → ((i : ℕ) → i < length cs → at-low (x + suc i) (getD cs i 0)) → (i : ℕ) → i < suc (length cs) → at-low (x + i) (getD (c ∷ cs) i 0)
-      split a h zero b = subst (λ (y : ℕ). at-low y c) (sym (add-zero x)) a
-      split a h (suc i) b = h i (le-of-suc-le-suc b)
+same-tests :
+    (r s : PricedRegion) → ((i : ℕ) → getD (r .whole) i 0 ≡ getD (s .whole) i 0) → ((i : ℕ) → getD (r .group) i 0 ≡ getD (s .group) i 0)
+    → (x : ℕ) (cs : List ℕ) → withinFrom x cs r ≡ withinFrom x cs s
+unfolding meets
+same-tests r s w g x [] = refl
+same-tests r s w g x (c ∷ cs) = ap₂ _&&_ (ap₂ (λ (a b : ℕ). leb (high a b) c) (w x) (g x)) (same-tests r s w g (suc x) cs)
 
-  within-holds : (cs : List ℕ) → ((i : ℕ) → i < length cs → low (r .whole) (r .group) i (getD cs i 0) ≡ true) → within cs r ≡ true
-  unfolding within at-low
-  within-holds cs h = within-from 0 cs .1 (λ i b. rw (zero-add i) (h i b))
+module _ (n : ℕ) (cs ws gs : List ℕ) (many : n < suc (length cs)) where
+  as-many : length (take n cs) ≡ n
+  as-many = length-take-le n cs (omega arith)
 
-  within-fails : (cs : List ℕ) (i : ℕ) → i < length cs → low (r .whole) (r .group) i (getD cs i 0) ≡ false → within cs r ≡ false
-  unfolding within at-low
-  within-fails cs i b n = go (within cs r) refl
-    where
-      go : (w : Bool) → withinFrom 0 cs r ≡ w → w ≡ false
-      go false e = refl
-      go true e = absurd (true≢false (sym (rw (zero-add i) at (within-from 0 cs .0 e i b)) ∙ n))
+  -- One test, and those behind it.
+  next : (x : ℕ) → x < n → left n x cs ws gs ≡ (low ws gs x (getD cs x 0) && left n (suc x) cs ws gs)
+  unfolding meets
+  next x b =
+      ap (λ (l : List ℕ). withinFrom x l (record { whole = ws; group = gs; prices = [] })) (drop-cons (take n cs) x 0 (rw as-many b))
+      ∙ ap (λ (c : ℕ). low ws gs x c && left n (suc x) cs ws gs) (getD-take n cs x 0 b)
 
-module _ (s : Region) (v : Valid s) (cs : List ℕ) (three : length cs ≡ 3) where
-  -- What is read from the arrays is what is read from the region.
-  as-region : (i : ℕ) → i < s .timers → low (s .whole) (s .group) i (getD cs i 0) ≡ low (view s .whole) (view s .group) i (getD (take (s .timers) cs) i 0)
-  as-region i b =
-      let h = holds s v in
-      ap₂ (λ (w g : ℕ). leb (high w g) (getD cs i 0)) (whole-at s (view s) h i) (group-at s (view s) h i)
-      ∙ ap (low (view s .whole) (view s .group) i) (sym (getD-take (s .timers) cs i 0 b))
+  pub passed : (x : ℕ) → x < n → low ws gs x (getD cs x 0) ≡ true → left n (x + 1) cs ws gs ≡ left n x cs ws gs
+  passed x b e = rw (add-one x, next x b, e) refl
 
-  as-many : length (take (s .timers) cs) ≡ s .timers
-  as-many = length-take-le (s .timers) cs (omega (arith, v .few))
+  pub failed : (x : ℕ) → x < n → low ws gs x (getD cs x 0) ≡ false → left n x cs ws gs ≡ false
+  failed x b e = next x b ∙ rw e refl
 
-  pub within-all : ((i : ℕ) → i < s .timers → low (s .whole) (s .group) i (getD cs i 0) ≡ true) → within (take (s .timers) cs) (view s) ≡ true
-  within-all h = within-holds (view s) (take (s .timers) cs) (λ i b. let l = rw as-many at b in sym (as-region i l) ∙ h i l)
+  pub done : (x : ℕ) → x ≡ n → left n x cs ws gs ≡ true
+  done x e =
+      let none : length (take n cs) ≤ x = omega (arith, as-many) in
+      ap (λ (l : List ℕ). withinFrom x l (record { whole = ws; group = gs; prices = [] })) (drop-of-length-le (take n cs) none)
 
-  pub within-some : (i : ℕ) → i < s .timers → low (s .whole) (s .group) i (getD cs i 0) ≡ false → within (take (s .timers) cs) (view s) ≡ false
-  within-some i b n = within-fails (view s) (take (s .timers) cs) i (rw as-many b) (sym (as-region i b) ∙ n)
+-- All tests, on the region that the struct holds.
+pub all-left : (s : Region) → Valid s → (cs : List ℕ) → left (s .timers) 0 cs (s .whole) (s .group) ≡ within (take (s .timers) cs) (view s)
+unfolding within
+all-left s v cs =
+    let h = holds s v in
+    same-tests (record { whole = s .whole; group = s .group; prices = [] }) (view s) (whole-at s (view s) h) (group-at s (view s) h) 0
+    (take (s .timers) cs)

@@ -44,7 +44,8 @@ module _ (s : Region) (r : PricedRegion) (h : Holds s r) where
   prices-few = omega (arith, prices-many s r h, top-few s r h)
 
   pub charged-is :
-      (price : ℕ) → struct (s .timers) (s .top) (s .whole) (s .group) (mapTo (λ c. c + price) (s .top + 1) (s .prices)) ≡ pack (charge price r)
+      (price : ℕ)
+      → struct (s .timers) (s .top) (s .whole) (s .group) (mapTo (λ c. c + price) (s .top + 1) (s .prices)) ≡ pack (charge price r)
   unfolding charge
   charged-is price =
       packed _ (charge price r) (timers-is s r h)
@@ -55,7 +56,8 @@ module _ (s : Region) (r : PricedRegion) (h : Holds s r) where
 
   pub lingered-is :
       (rate : ℕ) → noZero r ≡ true
-      → struct (s .timers) (s .top) (s .whole) (s .group) (set (s .prices) (s .top) (min (getD (s .prices) (s .top) 0) (getD (s .prices) 0 0 + rate)))
+      → struct (s .timers) (s .top) (s .whole) (s .group)
+      (set (s .prices) (s .top) (min (getD (s .prices) (s .top) 0) (getD (s .prices) 0 0 + rate)))
       ≡ pack (linger rate r)
   lingered-is rate z =
       let in-range : pred (length (r .prices)) < length (r .prices) = omega (arith, h .wellFormed .priced) in
@@ -71,7 +73,8 @@ module _ (s : Region) (r : PricedRegion) (h : Holds s r) where
 
   pub left-is :
       (rate : ℕ) → noZero r ≡ false
-      → struct (s .timers) (s .top + 1) (s .whole) (mapTo suc (s .timers) (s .group)) (set (s .prices) (s .top + 1) (getD (s .prices) 0 0 + rate))
+      → struct (s .timers) (s .top + 1) (s .whole) (mapTo suc (s .timers) (s .group))
+      (set (s .prices) (s .top + 1) (getD (s .prices) 0 0 + rate))
       ≡ pack (leave rate r)
   unfolding leave
   left-is rate z =
@@ -79,11 +82,13 @@ module _ (s : Region) (r : PricedRegion) (h : Holds s r) where
       (omega (arith, leave-top r (h .wellFormed) rate, top-is s r h))
       (whole-is s r h)
       (rw (group-is s r h) (mapTo-pad 3 (r .group) suc (s .timers) (group-length s r h)))
-      (rw (price-at s r h 0, prices-is s r h) (snoc-pad 4 (r .prices) (s .top + 1) _ (prices-many s r h) (omega (arith, top-fewer s r h (zero-some r z)))))
+      (rw (price-at s r h 0, prices-is s r h)
+      (snoc-pad 4 (r .prices) (s .top + 1) _ (prices-many s r h) (omega (arith, top-fewer s r h (zero-some r z)))))
 
   pub arrived-is :
       noZero r ≡ true
-      → struct (s .timers) (s .top - 1) (risen (s .top) (s .group) (s .whole)) (map (wrapped (s .top)) (s .group)) (drop 1 (s .prices) ++ 0 ∷ [])
+      → struct (s .timers) (s .top - 1) (risen (s .top) (s .group) (s .whole)) (map (wrapped (s .top)) (s .group))
+      (drop 1 (s .prices) ++ 0 ∷ [])
       ≡ pack (arrive r)
   unfolding arrive
   arrived-is z =
@@ -115,11 +120,14 @@ module _ (s : Region) (r : PricedRegion) (h : Holds s r) where
         ≡ pack (reset x r)
     reset-alone-is a =
         let g = getD (r .group) x 0 in
-        let b : suc (top r - g) < length (r .prices) = merged-in (length (r .prices)) g (alone-true x (r .group) a .0) (h .wellFormed .below x) in
-        let k : s .top - 1 ≡ pred (length (merge (top r - g) (r .prices))) = omega (arith, prices-many s r h, length-merge (top r - g) (r .prices) b) in
+        let b : suc (top r - g) < length (r .prices) =
+        merged-in (length (r .prices)) g (alone-true x (r .group) a .0) (h .wellFormed .below x) in
+        let k : s .top - 1 ≡ pred (length (merge (top r - g) (r .prices))) =
+        omega (arith, prices-many s r h, length-merge (top r - g) (r .prices) b) in
         packed _ (resetAlone x r) (timers-is s r h ∙ sym (length-set (r .whole) x 0))
         k
         (rw (whole-is s r h) (clear-pad 3 (r .whole) x))
-        (rw (group-at s r h x, group-is s r h, map-pad 3 (r .group) (lowered g) (lowered-low g 0 (omega arith))) (clear-pad 3 (map (lowered g) (r .group)) x))
+        (rw (group-at s r h x, group-is s r h, map-pad 3 (r .group) (lowered g) (lowered-low g 0 (omega arith)))
+        (clear-pad 3 (map (lowered g) (r .group)) x))
         (rw (group-at s r h x, top-is s r h, prices-is s r h) (merge-pad 4 (top r - g) (r .prices) b prices-few))
         ∙ ap pack (sym (reset-alone x r a))

@@ -29,7 +29,8 @@ set-zeros (x ∷ l) k zero = refl
 set-zeros (x ∷ l) k (suc i) = ap (λ (m : List ℕ). x ∷ m) (set-zeros l k i)
 
 risen-zeros :
-    (k : ℕ) → 0 < k → (gs ws : List ℕ) (m : ℕ) → length gs ≡ length ws → risen k (gs ++ replicate m 0) (ws ++ replicate m 0) ≡ risen k gs ws ++ replicate m 0
+    (k : ℕ) → 0 < k → (gs ws : List ℕ) (m : ℕ) → length gs ≡ length ws
+    → risen k (gs ++ replicate m 0) (ws ++ replicate m 0) ≡ risen k gs ws ++ replicate m 0
 risen-zeros k p [] [] zero e = refl
 risen-zeros k p [] [] (suc m) e = rw (ne-eqb 0 k (λ z. omega arith)) (ap (λ (l : List ℕ). 0 ∷ l) (risen-zeros k p [] [] m refl))
 risen-zeros k p [] (w ∷ ws) m e = absurd (omega arith)
@@ -97,11 +98,14 @@ tail-pad m (c ∷ cs) h b = zero-more m cs b
 pub merge-pad : (m i : ℕ) (cs : List ℕ) → suc i < length cs → length cs ≤ m → merge i (pad m cs) ++ 0 ∷ [] ≡ pad m (merge i cs)
 merge-pad m i cs h b =
     let e = length-merge i cs h in
-    ap (λ (l : List ℕ). l ++ 0 ∷ []) (merge-append i cs (replicate (m - length cs) 0) h ∙ ap (λ (n : ℕ). merge i cs ++ replicate (m - n) 0) e)
+    ap (λ (l : List ℕ). l ++ 0 ∷ [])
+    (merge-append i cs (replicate (m - length cs) 0) h ∙ ap (λ (n : ℕ). merge i cs ++ replicate (m - n) 0) e)
     ∙ zero-more m (merge i cs) (omega arith)
 
 -- An array of zeros.
 pub zeros-pad : (m n : ℕ) → n ≤ m → replicate m 0 ≡ pad m (replicate n 0)
 zeros-pad m n h =
     let j : m ≡ n + (m - n) = omega arith in
-    ap (λ (k : ℕ). replicate k 0) j ∙ sym (replicate-append-replicate n (m - n) 0) ∙ ap (λ (k : ℕ). replicate n 0 ++ replicate (m - k) 0) (sym (length-replicate n 0))
+    ap (λ (k : ℕ). replicate k 0) j
+    ∙ sym (replicate-append-replicate n (m - n) 0)
+    ∙ ap (λ (k : ℕ). replicate n 0 ++ replicate (m - k) 0) (sym (length-replicate n 0))

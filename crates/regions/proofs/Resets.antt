@@ -20,7 +20,9 @@ pub named-no : (byte x : ℕ) → (byte / 2 ^ x % 2 ≡ 1 → ⊥) → named byt
 named-no byte x n = rw (ne-eqb _ 1 n)
 
 -- The timers that a byte names, the first of them reset before the others.
-resets-split : (byte x : ℕ) (xs : List ℕ) (r : PricedRegion) → resetAll (named byte (x ∷ xs)) r ≡ resetAll (named byte xs) (resetAll (named byte (x ∷ [])) r)
+resets-split :
+    (byte x : ℕ) (xs : List ℕ) (r : PricedRegion)
+    → resetAll (named byte (x ∷ xs)) r ≡ resetAll (named byte xs) (resetAll (named byte (x ∷ [])) r)
 unfolding resetAll
 resets-split byte x xs r = go (eqb (byte / 2 ^ x % 2) 1)
   where
@@ -30,8 +32,8 @@ resets-split byte x xs r = go (eqb (byte / 2 ^ x % 2) 1)
 
 -- The three timers that a byte can name, one after another.
 pub resets-is :
-    (byte : ℕ) (s a b t : Region) → Valid s → a ≡ pack (resetAll (named byte (0 ∷ [])) (view s)) → b ≡ pack (resetAll (named byte (1 ∷ [])) (view a))
-    → t ≡ pack (resetAll (named byte (2 ∷ [])) (view b)) → t ≡ pack (resetAll (named byte (0 ∷ 1 ∷ 2 ∷ [])) (view s))
+    (byte : ℕ) (s a b t : Region) → Valid s → a ≡ pack (resetAll (named byte (0 ∷ [])) (view s))
+    → b ≡ pack (resetAll (named byte (1 ∷ [])) (view a)) → t ≡ pack (resetAll (named byte (2 ∷ [])) (view b)) → t ≡ pack (resetAll (named byte (0 ∷ 1 ∷ 2 ∷ [])) (view s))
 resets-is byte s a b t v ea eb et =
     let first = resetAll-gives s a v (named byte (0 ∷ [])) ea in
     let second = resetAll-gives a b (first .valid) (named byte (1 ∷ [])) eb in

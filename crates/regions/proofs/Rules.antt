@@ -66,7 +66,8 @@ number-right n i few there =
 
 pub number-is :
     (s : Region) (r : PricedRegion) → Holds s r → (j : ℕ) → j ≤ s .top
-    → entry firsts (s .timers - 1 + getD (s .group) 2 0) (4 * getD (s .group) 0 0 + getD (s .group) 1 0) + j ≡ cornerNumber (s .timers) (cornerOf r j)
+    → entry firsts (s .timers - 1 + getD (s .group) 2 0) (4 * getD (s .group) 0 0 + getD (s .group) 1 0) + j
+    ≡ cornerNumber (s .timers) (cornerOf r j)
 number-is s r h j there =
     let at = group-at s r h in
     rw (at 0, at 1, at 2)
@@ -128,7 +129,8 @@ corners-right = up-to-three (λ n. cornerTest n ≡ true) refl refl refl refl
 pub corner-is : (n i : ℕ) → n ≤ 3 → i < cornerCount n 1 → decoded (coded n i) ≡ packCorner (cornerAt n i)
 unfolding cornerTest cornerAt
 corner-is n i few there =
-    holds-corner _ _ (every-at (λ k c. holdsCorner (decoded (coded n k)) c) (corners n) (corners-right n few) i _ (rw (corners-length n) there))
+    holds-corner _ _
+    (every-at (λ k c. holdsCorner (decoded (coded n k)) c) (corners n) (corners-right n few) i _ (rw (corners-length n) there))
 
 -- The row is in the table.
 pub row-in : (n : ℕ) → n ≤ 3 → (i : ℕ) → i < cornerCount n 1 → getD rows n 0 + i / 8 < 13

@@ -28,11 +28,14 @@ swap true false n = refl
 swap false true n = refl
 swap false false n = refl
 
-count-suc : (g i : ℕ) (l : List ℕ) → i < length l → count g (take (suc i) l) ≡ cond (eqb (getD l i 0) g) (suc (count g (take i l))) (count g (take i l))
+count-suc :
+    (g i : ℕ) (l : List ℕ) → i < length l
+    → count g (take (suc i) l) ≡ cond (eqb (getD l i 0) g) (suc (count g (take i l))) (count g (take i l))
 count-suc g i [] h = absurd (not-suc-le-zero h)
 count-suc g zero (x ∷ l) h = refl
 count-suc g (suc i) (x ∷ l) h =
-    ap (λ (n : ℕ). cond (eqb x g) (suc n) n) (count-suc g i l (le-of-suc-le-suc h)) ∙ swap (eqb x g) (eqb (getD l i 0) g) (count g (take i l))
+    ap (λ (n : ℕ). cond (eqb x g) (suc n) n) (count-suc g i l (le-of-suc-le-suc h))
+    ∙ swap (eqb x g) (eqb (getD l i 0) g) (count g (take i l))
 
 -- One more entry is looked at, and it is g.
 pub count-hit : (g i : ℕ) (l : List ℕ) → i < length l → getD l i 0 ≡ g → count g (take i l) + 1 ≡ count g (take (i + 1) l)

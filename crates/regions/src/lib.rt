@@ -23,7 +23,7 @@ pub struct Region {
     pub prices: [u32; Region::MOST_CORNERS],
 }
 
-// A corner of a cell: the groups of its region, 0 past the last timer, the index of its price, and the number of the region's highest group.
+// A corner of a cell: the groups of its region, 0 past the last timer, the index of its price, and the number of the highest group.
 pub struct CornerAt {
     pub group: [u8; Region::MOST_TIMERS],
     pub index: usize,

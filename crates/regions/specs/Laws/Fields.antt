@@ -15,8 +15,8 @@ use Rattle.regions.specs.Laws.Pads.{getD-pad}
 
 -- The struct of a region, by its fields.
 pub packed :
-    (s : Region) (r : PricedRegion) → s .timers ≡ length (r .whole) → s .top ≡ top r → s .whole ≡ pad mostTimers (r .whole) → s .group ≡ pad mostTimers (r .group)
-    → s .prices ≡ pad mostCorners (r .prices) → s ≡ pack r
+    (s : Region) (r : PricedRegion) → s .timers ≡ length (r .whole) → s .top ≡ top r → s .whole ≡ pad mostTimers (r .whole)
+    → s .group ≡ pad mostTimers (r .group) → s .prices ≡ pad mostCorners (r .prices) → s ≡ pack r
 unfolding pack
 packed s r n k w g p = λ i. record { timers = n i; top = k i; whole = w i; group = g i; prices = p i }
 

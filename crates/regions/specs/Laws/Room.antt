@@ -67,10 +67,12 @@ module _ (r : PricedRegion) where
   delay-price-room rate amount h =
       let kept = below-of amount (r .prices) (less-room amount (rate + amount) (omega arith) h) in
       ⊎-elim
-      (λ z. subst (PriceRoom amount) (sym (delay-arrive rate r z)) (room-of amount (drop 1 (r .prices)) (drop-below (2 ^ 32 - amount) (r .prices) kept)))
+      (λ z. subst (PriceRoom amount) (sym (delay-arrive rate r z))
+      (room-of amount (drop 1 (r .prices)) (drop-below (2 ^ 32 - amount) (r .prices) kept)))
       (λ p. subst (PriceRoom amount) (sym (delay-leave rate r p))
       (room-of amount (r .prices ++ (getD (r .prices) 0 0 + rate) ∷ [])
-      (append-below (2 ^ 32 - amount) (r .prices) ((getD (r .prices) 0 0 + rate) ∷ []) kept (one-below (2 ^ 32 - amount) _ (omega (arith, h 0))))))
+      (append-below (2 ^ 32 - amount) (r .prices) ((getD (r .prices) 0 0 + rate) ∷ []) kept
+      (one-below (2 ^ 32 - amount) _ (omega (arith, h 0))))))
       (zero-cases r)
 
   -- Linger and reset take none: a price becomes the smaller of two.
@@ -102,7 +104,8 @@ module _ (r : PricedRegion) where
   pub reset-whole-room : (x : ℕ) → WholeRoom r → WholeRoom (reset x r)
   reset-whole-room x h =
       let cleared = set-below 255 0 (omega arith) (r .whole) x h in
-      ⊎-elim (λ a. subst WholeRoom (sym (reset-alone x r a)) cleared) (λ a. subst WholeRoom (sym (reset-joined x r a)) cleared) (alone-cases x r)
+      ⊎-elim (λ a. subst WholeRoom (sym (reset-alone x r a)) cleared) (λ a. subst WholeRoom (sym (reset-joined x r a)) cleared)
+      (alone-cases x r)
 
 pub start-whole-room : (n : ℕ) → WholeRoom (start n)
 unfolding start
@@ -121,8 +124,8 @@ resetAll-whole-room (x ∷ xs) r h = resetAll-whole-room xs (reset x r) (reset-w
 
 -- A region that is within its ceilings has room for whole parts, so that it can be delayed.
 pub within-whole-room :
-    (r : PricedRegion) → WellFormed r → (ceilings : List ℕ) → length ceilings ≡ length (r .whole) → Below 255 ceilings → within ceilings r ≡ true
-    → WholeRoom r
+    (r : PricedRegion) → WellFormed r → (ceilings : List ℕ) → length ceilings ≡ length (r .whole) → Below 255 ceilings
+    → within ceilings r ≡ true → WholeRoom r
 within-whole-room r w ceilings e small t i = go (decLt i (length ceilings))
   where
     go : Dec (i < length ceilings) → getD (r .whole) i 0 < 255

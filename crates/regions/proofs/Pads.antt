@@ -62,7 +62,8 @@ module _ (m : ℕ) (l : List ℕ) where
   -- f at the entries that the list has.
   pub mapTo-pad : (f : ℕ → ℕ) (n : ℕ) → length l ≡ n → mapTo f n (pad m l) ≡ pad m (map f l)
   mapTo-pad f n e =
-      ap₂ (λ (a b : List ℕ). map f a ++ b) (take-at l _ n e) (drop-at l (replicate (m - length l) 0) n e) ∙ resized (map f l) (length-map l f)
+      ap₂ (λ (a b : List ℕ). map f a ++ b) (take-at l _ n e) (drop-at l (replicate (m - length l) 0) n e)
+      ∙ resized (map f l) (length-map l f)
 
   -- A store of 0 at any place.
   pub clear-pad : (i : ℕ) → set (pad m l) i 0 ≡ pad m (set l i 0)

@@ -33,7 +33,8 @@ resets-split byte x xs r = go (eqb (byte / 2 ^ x % 2) 1)
 -- The three timers that a byte can name, one after another.
 pub resets-is :
     (byte : ℕ) (s a b t : Region) → Valid s → a ≡ pack (resetAll (named byte (0 ∷ [])) (view s))
-    → b ≡ pack (resetAll (named byte (1 ∷ [])) (view a)) → t ≡ pack (resetAll (named byte (2 ∷ [])) (view b)) → t ≡ pack (resetAll (named byte (0 ∷ 1 ∷ 2 ∷ [])) (view s))
+    → b ≡ pack (resetAll (named byte (1 ∷ [])) (view a)) → t ≡ pack (resetAll (named byte (2 ∷ [])) (view b))
+    → t ≡ pack (resetAll (named byte (0 ∷ 1 ∷ 2 ∷ [])) (view s))
 resets-is byte s a b t v ea eb et =
     let first = resetAll-gives s a v (named byte (0 ∷ [])) ea in
     let second = resetAll-gives a b (first .valid) (named byte (1 ∷ [])) eb in

@@ -32,7 +32,8 @@ returns c =
     let start = c .before .before .before .before .before .before in
     let s = start .args .self in
     let h = holds s (start .pre .0) in
-    rw (c .before .before .all-risen .ensures, c .before .all-wrapped .ensures, c .shifted .ensures) (arrived-is s (view s) h (start .pre .2))
+    rw (c .before .before .all-risen .ensures, c .before .all-wrapped .ensures, c .shifted .ensures)
+    (arrived-is s (view s) h (start .pre .2))
 
 pub arrive-spec : {M : Type 1} → statement M
 arrive-spec =

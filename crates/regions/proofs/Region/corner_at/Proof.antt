@@ -42,8 +42,10 @@ greatest-requires-2 c κs = search needs
 
 returns : tie.Need-returns
 returns c =
-    let start = c .before .before .before .before .before in
-    rw (c .greatest2 .ensures, c .before .greatest .ensures, c .before .before .wide2 .ensures .0, c .before .before .before .before .wide .ensures .0)
+    let coded = c .before .before in
+    let row = coded .before .before in
+    let start = row .before in
+    rw (c .greatest2 .ensures, c .before .greatest .ensures, coded .wide2 .ensures .0, row .wide .ensures .0)
     (corner-is (start .args .timers) (start .args .number) (start .pre .0) (start .pre .1))
 
 pub corner-at-spec : {M : Type 1} → statement M

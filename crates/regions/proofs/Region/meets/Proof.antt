@@ -27,7 +27,8 @@ returns c =
     let h = holds s (start .pre .0) in
     let x = start .args .timer in
     let b = start .args .condition in
-    c .meets-at .ensures ∙ ap₂ (λ (w g : ℕ). meetsAt (comparisonOf (b / 16)) (b % 16) w g) (whole-at s (view s) h x) (group-at s (view s) h x)
+    c .meets-at .ensures
+    ∙ ap₂ (λ (w g : ℕ). meetsAt (comparisonOf (b / 16)) (b % 16) w g) (whole-at s (view s) h x) (group-at s (view s) h x)
 
 pub meets-spec : {M : Type 1} → statement M
 meets-spec =

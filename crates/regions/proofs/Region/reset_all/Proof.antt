@@ -26,7 +26,8 @@ returns : tie.Need-returns
 returns c =
     let b = c .before in
     let a = b .before in
-    resets-is (a .before .args .resets) (a .before .args .self) _ _ _ (a .before .pre) (a .reset-if-named .ensures) (b .reset-if-named2 .ensures)
+    resets-is (a .before .args .resets) (a .before .args .self) _ _ _ (a .before .pre) (a .reset-if-named .ensures)
+    (b .reset-if-named2 .ensures)
     (c .reset-if-named3 .ensures)
 
 pub reset-all-spec : {M : Type 1} → statement M

@@ -13,7 +13,9 @@ use Rattle.regions.proofs.Region.reset_alone.Tie as tie
 -- The group that is gone is one of 1 to k.
 gone :
     (c : tie.Start)
-    → (0 < getD (c .args .t1 .group) (c .args .timer) 0) × (getD (c .args .t1 .group) (c .args .timer) 0 ≤ c .args .t1 .top) × (c .args .t1 .top ≤ 3)
+    → (0 < getD (c .args .t1 .group) (c .args .timer) 0)
+    × (getD (c .args .t1 .group) (c .args .timer) 0 ≤ c .args .t1 .top)
+    × (c .args .t1 .top ≤ 3)
 gone c =
     let s = c .args .t1 in
     let h = holds s (c .pre .0) in

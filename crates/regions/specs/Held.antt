@@ -1,0 +1,62 @@
+-- How the structs `Region` and `CornerAt` hold a priced region and a corner, and the bounds within which no number overflows.
+-- Assumes nothing.
+use mathlib.Core.Path.{_≡_}
+use mathlib.Core.List.{List, [], _∷_, _++_}
+use Prim.Native.Nat.{ℕ, suc, _+_, _-_, _≤_, _<_, _^_, max}
+use lib.ListN.{length, getD, take, replicate}
+use Rattle.semantics.specs.Region.{PricedRegion, WellFormed, top}
+use Rattle.semantics.specs.Corner.{Corner}
+use Rattle.regions.specs.declared.Region.{Region}
+use Rattle.regions.specs.declared.CornerAt.{CornerAt}
+
+-- The struct's associated constants.
+abbrev pub mostTimers : ℕ
+mostTimers = 3
+
+abbrev pub mostCorners : ℕ
+mostCorners = 4
+
+-- An array of n entries: the list, and 0 behind it.
+abbrev pub pad : ℕ → List ℕ → List ℕ
+pad n l = l ++ replicate (n - length l) 0
+
+-- The struct that holds a priced region.
+unfoldable pub pack : PricedRegion → Region
+pack r = record {
+  timers = length (r .whole);
+  top = top r;
+  whole = pad mostTimers (r .whole);
+  group = pad mostTimers (r .group);
+  prices = pad mostCorners (r .prices);
+}
+
+-- The priced region that a struct holds.
+unfoldable pub view : Region → PricedRegion
+view s = record {
+  whole = take (s .timers) (s .whole);
+  group = take (s .timers) (s .group);
+  prices = take (suc (s .top)) (s .prices);
+}
+
+-- The struct holds a region of one to three timers, and 0 in the entries that are not used.
+pub record Valid (s : Region) : Type 0 where
+  pub few : s .timers ≤ mostTimers
+  pub held : s ≡ pack (view s)
+  pub wellFormed : WellFormed (view s)
+
+-- Every price can grow by the amount within 32 bits.
+abbrev pub PriceRoom : ℕ → PricedRegion → Type 0
+PriceRoom amount r = (i : ℕ) → getD (r .prices) i 0 + amount < 2 ^ 32
+
+-- Every whole part can grow by one minute within a byte.
+abbrev pub WholeRoom : PricedRegion → Type 0
+WholeRoom r = (i : ℕ) → getD (r .whole) i 0 < 255
+
+-- The number of the highest group.
+abbrev pub highest : List ℕ → ℕ
+highest [] = 0
+highest (g ∷ gs) = max g (highest gs)
+
+-- The struct that holds a corner.
+unfoldable pub packCorner : Corner → CornerAt
+packCorner c = record { group = pad mostTimers (c .group); index = c .index; top = highest (c .group) }

@@ -1,0 +1,5 @@
+-- How the crate's structs hold the regions and corners of the definitions.
+pub mod Held
+pub mod Arrays
+-- What a caller may conclude from a contract:
+pub mod Laws

@@ -1,0 +1,281 @@
+// Layer 2: priced regions of one to three timers, by value, and the corners of a cell by their numbers.
+ghost use mathlib.Core.Path.{_≡_};
+ghost use mathlib.Core.Bool.{true, false};
+ghost use mathlib.Core.List.{_∷_, []};
+ghost use Prim.Native.Nat.{_<_, _≤_, max};
+ghost use lib.ListN.{take};
+ghost use Rattle.semantics.specs.Region.{noZero, alone, start, leave, arrive, delay, linger, reset, resetAll, charge, meets, within};
+ghost use Rattle.semantics.specs.Corner.{cornerCount, cornerOf, cornerNumber, cornerAt};
+ghost use Rattle.reader.specs.Meaning.{named, conditionOf};
+ghost use Rattle.regions.specs.Held.{mostTimers, pack, view, Valid, PriceRoom, WholeRoom, packCorner};
+
+mod arrays;
+mod compare;
+mod tables;
+
+// A region with its corner prices: of each timer its whole part and the number of its group, and the prices c0 to c(top). Of `whole` and
+// `group` the first `timers` entries are used, of `prices` the first `top + 1`; the others are 0. The struct has 24 bytes.
+pub struct Region {
+    pub timers: u8,
+    pub top: u8,
+    pub whole: [u8; Region::MOST_TIMERS],
+    pub group: [u8; Region::MOST_TIMERS],
+    pub prices: [u32; Region::MOST_CORNERS],
+}
+
+// A corner of a cell: the groups of its region, 0 past the last timer, the index of its price, and the number of the highest group.
+pub struct CornerAt {
+    pub group: [u8; Region::MOST_TIMERS],
+    pub index: usize,
+    pub top: u8,
+}
+
+impl Region {
+    pub const MOST_TIMERS: usize = 3;
+
+    pub const MOST_CORNERS: usize = 4;
+
+    // "The start region has all timers in r0 and the single price 0."
+    pub fn start(timers: usize) -> Region
+        requires { ⌜ timers ≤ mostTimers ⌝ }
+        ensures { λ r. ⌜ r ≡ pack (start timers) ⌝ }
+    {
+        Region {
+            timers: timers as u8,
+            top: 0,
+            whole: [0; Region::MOST_TIMERS],
+            group: [0; Region::MOST_TIMERS],
+            prices: [0; Region::MOST_CORNERS],
+        }
+    }
+
+    // Time passes until the region is left.
+    pub fn delay(self, rate: u32) -> Region
+        requires { ⌜ Valid self × PriceRoom rate (view self) × WholeRoom (view self) ⌝ }
+        ensures { λ r. ⌜ r ≡ pack (delay rate (view self)) ⌝ }
+    {
+        if self.no_zero() {
+            self.arrive()
+        } else {
+            self.leave(rate)
+        }
+    }
+
+    // "Linger, r0 empty: ck becomes the smaller of ck and c0 + rate. Otherwise nothing changes."
+    pub fn linger(mut self, rate: u32) -> Region
+        requires { ⌜ Valid self × PriceRoom rate (view self) ⌝ }
+        ensures { λ r. ⌜ r ≡ pack (linger rate (view self)) ⌝ }
+    {
+        if self.no_zero() {
+            let top = self.top as usize;
+            let highest = self.prices[top];
+            let waited = self.prices[0] + rate;
+            self.prices[top] = arrays::least(highest, waited);
+        }
+        self
+    }
+
+    // "Reset of one timer: its whole part becomes 0 and it joins r0." A timer that the region does not have changes nothing.
+    pub fn reset(self, timer: usize) -> Region
+        requires { ⌜ Valid self × (timer < mostTimers) ⌝ }
+        ensures { λ r. ⌜ r ≡ pack (reset timer (view self)) ⌝ }
+    {
+        if self.alone(timer) {
+            self.reset_alone(timer)
+        } else {
+            self.reset_joined(timer)
+        }
+    }
+
+    // The timers that a reset byte names are reset.
+    pub fn reset_all(self, resets: u8) -> Region
+        requires { ⌜ Valid self ⌝ }
+        ensures { λ r. ⌜ r ≡ pack (resetAll (named resets (0 ∷ 1 ∷ 2 ∷ [])) (view self)) ⌝ }
+    {
+        let a = self.reset_if_named(resets, 0);
+        let b = a.reset_if_named(resets, 1);
+        b.reset_if_named(resets, 2)
+    }
+
+    // "Charge: the move's price is added to every corner."
+    pub fn charge(mut self, price: u32) -> Region
+        requires { ⌜ Valid self × PriceRoom price (view self) ⌝ }
+        ensures { λ r. ⌜ r ≡ pack (charge price (view self)) ⌝ }
+    {
+        let old = self.prices;
+        let prices = arrays::charged(old, self.top as usize + 1, price);
+        self.prices = prices;
+        self
+    }
+
+    // Whether all points of the region meet a condition byte on the timer: "its corners need not".
+    pub fn meets(self, timer: usize, condition: u8) -> bool
+        requires { ⌜ Valid self × (timer < mostTimers) ⌝ }
+        ensures { λ r. ⌜ r ≡ meets (conditionOf timer condition) (view self) ⌝ }
+    {
+        let whole = self.whole;
+        let group = self.group;
+        compare::meets_at(condition / 16, condition % 16, whole[timer], group[timer])
+    }
+
+    // Whether all points of the region have each timer at or below its ceiling. Ceilings past the last timer play no part.
+    pub fn within(self, ceilings: [u8; Region::MOST_TIMERS]) -> bool
+        requires { ⌜ Valid self ⌝ }
+        ensures { λ r. ⌜ r ≡ within (take (self .timers) ceilings) (view self) ⌝ }
+    {
+        let n = self.timers as usize;
+        let whole = self.whole;
+        let group = self.group;
+        for timer in 0..n {
+            if !compare::at_most(ceilings[timer], whole[timer], group[timer]) {
+                return false;
+            }
+        }
+        true
+    }
+
+    // "The corners of a cell number 3, 13 or 75 for one, two or three timers."
+    pub fn corners(timers: usize) -> usize
+        requires { ⌜ timers ≤ mostTimers ⌝ }
+        ensures { λ r. ⌜ r ≡ cornerCount timers 1 ⌝ }
+    {
+        wide(tables::CORNERS[timers])
+    }
+
+    // The number, among the corners of the cell, of the corner whose price has the index.
+    pub fn corner(self, index: usize) -> usize
+        requires { ⌜ Valid self × (index ≤ self .top) ⌝ }
+        ensures { λ r. ⌜ r ≡ cornerNumber (self .timers) (cornerOf (view self) index) ⌝ }
+    {
+        let group = self.group;
+        let row = tables::FIRST[(self.timers - 1 + group[2]) as usize];
+        let first = row[(4 * group[0] + group[1]) as usize];
+        wide(first) + index
+    }
+
+    // The corner with a number, among the corners of a cell.
+    pub fn corner_at(timers: usize, number: usize) -> CornerAt
+        requires { ⌜ (timers ≤ mostTimers) × (number < cornerCount timers 1) ⌝ }
+        ensures { λ r. ⌜ r ≡ packCorner (cornerAt timers number) ⌝ }
+    {
+        let row = tables::CORNER[wide(tables::ROW[timers]) + number / 8];
+        let code = row[number % 8];
+        let a = code / 16 % 4;
+        let b = code / 4 % 4;
+        let c = code % 4;
+        CornerAt {
+            group: [a, b, c],
+            index: wide(code / 64),
+            top: greatest(a, greatest(b, c)),
+        }
+    }
+
+    // Whether r0 is empty.
+    fn no_zero(self) -> bool
+        requires { ⌜ Valid self ⌝ }
+        ensures { λ r. ⌜ r ≡ noZero (view self) ⌝ }
+    {
+        let group = self.group;
+        arrays::count_of(group, self.timers as usize, 0) == 0
+    }
+
+    // "Delay, r0 not empty: every group moves up one place, r0 is empty, and c0 + rate is added at the end."
+    fn leave(mut self, rate: u32) -> Region
+        requires { ⌜ Valid self × PriceRoom rate (view self) × (noZero (view self) ≡ false) ⌝ }
+        ensures { λ r. ⌜ r ≡ pack (leave rate (view self)) ⌝ }
+    {
+        let top = self.top + 1;
+        let old = self.group;
+        let group = arrays::raised(old, self.timers as usize);
+        self.top = top;
+        self.group = group;
+        self.prices[top as usize] = self.prices[0] + rate;
+        self
+    }
+
+    // "Delay, r0 empty: rk becomes r0, its whole parts rise by 1, c0 is dropped."
+    fn arrive(mut self) -> Region
+        requires { ⌜ Valid self × WholeRoom (view self) × (noZero (view self) ≡ true) ⌝ }
+        ensures { λ r. ⌜ r ≡ pack (arrive (view self)) ⌝ }
+    {
+        let top = self.top;
+        let old_whole = self.whole;
+        let old_group = self.group;
+        let old_prices = self.prices;
+        let whole = arrays::all_risen(top, old_group, old_whole);
+        let group = arrays::all_wrapped(top, old_group);
+        let prices = arrays::shifted(old_prices);
+        self.top = top - 1;
+        self.whole = whole;
+        self.group = group;
+        self.prices = prices;
+        self
+    }
+
+    // Whether the timer is alone in its group, which is not r0.
+    fn alone(self, timer: usize) -> bool
+        requires { ⌜ Valid self × (timer < mostTimers) ⌝ }
+        ensures { λ r. ⌜ r ≡ alone timer (view self .group) ⌝ }
+    {
+        let group = self.group;
+        let g = group[timer];
+        if 0 < g {
+            arrays::count_of(group, self.timers as usize, g) == 1
+        } else {
+            false
+        }
+    }
+
+    // "If it was alone in ri, i at least 1, the prices c(k-i) and c(k-i+1) become one, the smaller."
+    fn reset_alone(mut self, timer: usize) -> Region
+        requires { ⌜ Valid self × (timer < mostTimers) × (alone timer (view self .group) ≡ true) ⌝ }
+        ensures { λ r. ⌜ r ≡ pack (reset timer (view self)) ⌝ }
+    {
+        let top = self.top;
+        let old_group = self.group;
+        let old_prices = self.prices;
+        let g = old_group[timer];
+        let group = arrays::all_lowered(g, old_group);
+        let prices = arrays::merged(old_prices, (top - g) as usize);
+        self.top = top - 1;
+        self.whole[timer] = 0;
+        self.group = group;
+        self.group[timer] = 0;
+        self.prices = prices;
+        self
+    }
+
+    // The timer was in r0, or it leaves other timers in its group.
+    fn reset_joined(mut self, timer: usize) -> Region
+        requires { ⌜ Valid self × (timer < mostTimers) × (alone timer (view self .group) ≡ false) ⌝ }
+        ensures { λ r. ⌜ r ≡ pack (reset timer (view self)) ⌝ }
+    {
+        self.whole[timer] = 0;
+        self.group[timer] = 0;
+        self
+    }
+
+    // The timer is reset if its bit stands in the byte.
+    fn reset_if_named(self, resets: u8, timer: usize) -> Region
+        requires { ⌜ Valid self × (timer < mostTimers) ⌝ }
+        ensures { λ r. ⌜ r ≡ pack (resetAll (named resets (timer ∷ [])) (view self)) ⌝ }
+    {
+        if (resets >> timer) % 2 == 1 {
+            self.reset(timer)
+        } else {
+            self
+        }
+    }
+}
+
+fn wide(x: u8) -> usize
+    ensures { λ r. ⌜ (r ≡ x) × (r < 256) ⌝ }
+{
+    x as usize
+}
+
+fn greatest(a: u8, b: u8) -> u8
+    ensures { λ r. ⌜ r ≡ max a b ⌝ }
+{
+    if a < b { b } else { a }
+}

@@ -54,13 +54,13 @@ cellAt [] i = []
 cellAt (ceiling ∷ ceilings) i = i % factor ceiling ∷ cellAt ceilings (i / factor ceiling)
 
 -- Nodes are numbered by mode, then cell, then corner; and the node with a number.
-unfoldable pub nodeNumber : Automaton → Node → ℕ
-nodeNumber a x =
-    (x .mode * cellCount (a .ceilings) + cellNumber (a .ceilings) (x .whole)) * cornerCount (timers a) 1 + cornerNumber (timers a) (x .corner)
+unfoldable pub nodeNumber : List ℕ → Node → ℕ
+nodeNumber ceilings x =
+    (x .mode * cellCount ceilings + cellNumber ceilings (x .whole)) * cornerCount (length ceilings) 1 + cornerNumber (length ceilings) (x .corner)
 
-unfoldable pub nodeAt : Automaton → ℕ → Node
-nodeAt a i = record {
-  mode = i / cornerCount (timers a) 1 / cellCount (a .ceilings);
-  whole = cellAt (a .ceilings) (i / cornerCount (timers a) 1 % cellCount (a .ceilings));
-  corner = cornerAt (timers a) (i % cornerCount (timers a) 1);
+unfoldable pub nodeAt : List ℕ → ℕ → Node
+nodeAt ceilings i = record {
+  mode = i / cornerCount (length ceilings) 1 / cellCount ceilings;
+  whole = cellAt ceilings (i / cornerCount (length ceilings) 1 % cellCount ceilings);
+  corner = cornerAt (length ceilings) (i % cornerCount (length ceilings) 1);
 }

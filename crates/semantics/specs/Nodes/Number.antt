@@ -19,13 +19,13 @@ module _ (a : Automaton) where
   abbrev cellsOf : ℕ
   cellsOf = cellCount (a .ceilings)
 
-  pub nodeNumber-below : (x : Node) → IsNode a x → nodeNumber a x < nodeCount a
+  pub nodeNumber-below : (x : Node) → IsNode a x → nodeNumber (a .ceilings) x < nodeCount a
   unfolding nodeNumber nodeCount
   nodeNumber-below x n =
       pair-below cornersOf (pair-below cellsOf (n .mode) (cellNumber-below (a .ceilings) (x .whole) (n .cell)))
       (number-below (timers a) (x .corner) (n .corner))
 
-  pub nodeAt-number : (x : Node) → IsNode a x → nodeAt a (nodeNumber a x) ≡ x
+  pub nodeAt-number : (x : Node) → IsNode a x → nodeAt (a .ceilings) (nodeNumber (a .ceilings) x) ≡ x
   unfolding nodeNumber nodeAt
   nodeAt-number x n =
       let cell = cellNumber (a .ceilings) (x .whole) in
@@ -49,7 +49,7 @@ module _ (a : Automaton) where
     unfolding nodeCount
     cell-below = quotient-below (length (a .modes) * cellsOf) cornersOf h
 
-    pub nodeAt-node : IsNode a (nodeAt a i)
+    pub nodeAt-node : IsNode a (nodeAt (a .ceilings) i)
     unfolding nodeAt
     nodeAt-node = record {
       mode = quotient-below (length (a .modes)) cellsOf cell-below;
@@ -57,7 +57,7 @@ module _ (a : Automaton) where
       corner = cornerAt-listed (timers a) (i % cornersOf) (mod-lt i corner-pos);
     }
 
-    pub number-nodeAt : nodeNumber a (nodeAt a i) ≡ i
+    pub number-nodeAt : nodeNumber (a .ceilings) (nodeAt (a .ceilings) i) ≡ i
     unfolding nodeAt nodeNumber
     number-nodeAt =
         let q = i / cornersOf in

@@ -22,18 +22,18 @@ module _ (a : Automaton) (mode : ℕ) (r : PricedRegion) (w : WellFormed r) (siz
   -- Two nodes of one cell go by their corners.
   corner-rises :
       (s : PricedRegion) (i j : ℕ) → s .whole ≡ r .whole → cornerNumber (timers a) (cornerOf r j) < cornerNumber (timers a) (cornerOf s i)
-      → nodeNumber a (nodeOf mode r j) < nodeNumber a (nodeOf mode s i)
+      → nodeNumber (a .ceilings) (nodeOf mode r j) < nodeNumber (a .ceilings) (nodeOf mode s i)
   unfolding nodeNumber
   corner-rises s i j e h = rw e (omega arith)
 
   leave-node-rises :
       (rate i j : ℕ) → 0 < count 0 (r .group) → j < length (r .prices) → i < length (leave rate r .prices)
-      → nodeNumber a (nodeOf mode r j) < nodeNumber a (nodeOf mode (leave rate r) i)
+      → nodeNumber (a .ceilings) (nodeOf mode r j) < nodeNumber (a .ceilings) (nodeOf mode (leave rate r) i)
   unfolding leave
   leave-node-rises rate i j z h k = corner-rises (leave rate r) i j refl (rw sized at (leave-rises r w rate z i j h k))
 
   arrive-node-rises :
-      (i j : ℕ) → count 0 (r .group) ≡ 0 → j < length (r .prices) → nodeNumber a (nodeOf mode r j) < nodeNumber a (nodeOf mode (arrive r) i)
+      (i j : ℕ) → count 0 (r .group) ≡ 0 → j < length (r .prices) → nodeNumber (a .ceilings) (nodeOf mode r j) < nodeNumber (a .ceilings) (nodeOf mode (arrive r) i)
   unfolding nodeNumber arrive
   arrive-node-rises i j z h =
       let c : cellNumber (a .ceilings) (r .whole) < cellNumber (a .ceilings) (arrive r .whole) =
@@ -44,12 +44,12 @@ module _ (a : Automaton) (mode : ℕ) (r : PricedRegion) (w : WellFormed r) (siz
   -- Delay, from any corner to any corner of the next region.
   pub delay-node-rises :
       (rate i j : ℕ) → j < length (r .prices) → i < length (delay rate r .prices)
-      → nodeNumber a (nodeOf mode r j) < nodeNumber a (nodeOf mode (delay rate r) i)
+      → nodeNumber (a .ceilings) (nodeOf mode r j) < nodeNumber (a .ceilings) (nodeOf mode (delay rate r) i)
   delay-node-rises rate i j h k =
       ⊎-elim (λ z. rw (delay-arrive rate r z) (arrive-node-rises i j z h))
       (λ z. rw (delay-leave rate r z) (leave-node-rises rate i j z h (rw (delay-leave rate r z) at k)))
       (zero-cases r)
 
   -- Linger, from corner 0 to corner k of the region, where r0 is empty.
-  pub linger-node-rises : count 0 (r .group) ≡ 0 → nodeNumber a (nodeOf mode r 0) < nodeNumber a (nodeOf mode r (top r))
+  pub linger-node-rises : count 0 (r .group) ≡ 0 → nodeNumber (a .ceilings) (nodeOf mode r 0) < nodeNumber (a .ceilings) (nodeOf mode r (top r))
   linger-node-rises z = corner-rises r (top r) 0 refl (rw sized at (linger-rises r w z))

@@ -7,3 +7,4 @@ pub mod Resets
 pub mod Codes
 pub mod Ceilings
 pub mod Rules
+pub mod Cells

@@ -6,6 +6,7 @@ use Prim.Native.Nat.{ℕ, suc, _+_, _-_, _≤_, _<_, _^_, max}
 use lib.ListN.{length, getD, take, replicate}
 use Rattle.semantics.specs.Region.{PricedRegion, WellFormed, top}
 use Rattle.semantics.specs.Corner.{Corner}
+pub use Rattle.reader.specs.Held.{pad}
 use Rattle.regions.specs.declared.Region.{Region}
 use Rattle.regions.specs.declared.CornerAt.{CornerAt}
 
@@ -15,10 +16,6 @@ mostTimers = 3
 
 abbrev pub mostCorners : ℕ
 mostCorners = 4
-
--- An array of n entries: the list, and 0 behind it.
-abbrev pub pad : ℕ → List ℕ → List ℕ
-pad n l = l ++ replicate (n - length l) 0
 
 -- The struct that holds a priced region.
 unfoldable pub pack : PricedRegion → Region

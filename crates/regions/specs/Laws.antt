@@ -4,3 +4,4 @@ pub mod Fields
 pub mod Chain
 pub mod Room
 pub mod Corners
+pub mod Nodes

@@ -1,5 +1,6 @@
 -- How the crate's structs hold the regions and corners of the definitions.
 pub mod Held
 pub mod Arrays
+pub mod Nodes
 -- What a caller may conclude from a contract:
 pub mod Laws

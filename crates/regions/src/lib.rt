@@ -11,6 +11,7 @@ ghost use Rattle.regions.specs.Held.{mostTimers, pack, view, Valid, Pric
 
 mod arrays;
 mod compare;
+pub mod nodes;
 mod tables;
 
 // A region with its corner prices: of each timer its whole part and the number of its group, and the prices c0 to c(top). Of `whole` and

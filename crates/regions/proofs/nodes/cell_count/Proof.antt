@@ -1,0 +1,66 @@
+-- `regions::nodes::cell_count` meets its contract. Assumes nothing.
+use Prim.Native.Nat.{ℕ, _+_, _*_, _/_, _≤_}
+use mathlib.Core.Path.{_≡_, refl, ap, ap₂, _∙_}
+use mathlib.Core.List.{List, [], _∷_}
+use native.Mathlib.Nat.{mul-le-mul}
+use native.Mathlib.Omega.{arith}
+use lib.ListN.{length, getD}
+use Rattle.regions.proofs.Cells.{product-few, count-is, number-is, cell-is}
+use borrow.Author.Needs.{needs}
+use Rattle.regions.proofs.nodes.cell_count.Statement.{statement}
+use Rattle.regions.proofs.nodes.cell_count.Tie as tie
+
+-- The products of the factors.
+two : (c : tie.After-factor3) → c .factor3 .result * c .before .factor2 .result ≤ 256
+two c = product-few (c .factor3 .result) (c .before .factor2 .result) 16 16 (c .factor3 .ensures .high) (c .before .factor2 .ensures .high)
+
+all : (c : tie.After-factor3) → c .factor3 .result * c .before .factor2 .result * c .before .before .factor .result ≤ 4096
+all c = product-few (c .factor3 .result * c .before .factor2 .result) (c .before .before .factor .result) 256 16 (two c) (c .before .before .factor .ensures .high)
+
+one : (c : tie.After-factor3) → 1 ≤ c .factor3 .result * c .before .factor2 .result * c .before .before .factor .result
+one c =
+    mul-le-mul (mul-le-mul (c .factor3 .ensures .low) (c .before .factor2 .ensures .low)) (c .before .before .factor .ensures .low)
+
+array-read-factor : tie.Need-array-read-factor
+array-read-factor c = search needs
+
+factor-requires : tie.Need-factor-requires
+factor-requires c κs = c .pre 0
+
+array-read-factor-2 : tie.Need-array-read-factor-2
+array-read-factor-2 c = search needs
+
+factor-requires-2 : tie.Need-factor-requires-2
+factor-requires-2 c κs = c .before .pre 1
+
+array-read-factor-3 : tie.Need-array-read-factor-3
+array-read-factor-3 c = search needs
+
+factor-requires-3 : tie.Need-factor-requires-3
+factor-requires-3 c κs = c .before .before .pre 2
+
+mul-result : tie.Need-mul-result
+mul-result c = omega (arith, two c)
+
+mul-result-2 : tie.Need-mul-result-2
+mul-result-2 c = omega (arith, two c, all c)
+
+returns : tie.Need-returns
+returns c =
+    let l = c .before .before .before .args .t1 in
+    let three : length l ≡ 3 = search needs in
+    (count-is l three (c .before .before .factor .ensures .is) (c .before .factor2 .ensures .is) (c .factor3 .ensures .is), one c, all c)
+
+pub cell-count-spec : {M : Type 1} → statement M
+cell-count-spec =
+    tie.close
+    (tie.spec
+    array-read-factor
+    factor-requires
+    array-read-factor-2
+    factor-requires-2
+    array-read-factor-3
+    factor-requires-3
+    mul-result
+    mul-result-2
+    returns)

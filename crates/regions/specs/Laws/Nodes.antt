@@ -1,0 +1,112 @@
+-- Cells and nodes over an array of ceilings: what lies behind the last ceiling changes nothing.
+-- Assumes nothing.
+use mathlib.Core.Path.{_≡_, refl, sym, ap, ap₂, _∙_}
+use mathlib.Core.Logic.{inl, inr}
+use mathlib.Core.List.{List, [], _∷_, _++_, map, List·Memᴰ}
+use Prim.Native.Nat.{ℕ, zero, suc, _+_, _*_, _-_, _/_, _%_, _≤_, _<_}
+use native.Mathlib.Nat.{mod-one, div-one}
+use native.Mathlib.Omega.{arith}
+use lib.ListN.{length, getD, take, replicate, length-map}
+use Rattle.semantics.specs.Automaton.{timers}
+use Rattle.semantics.specs.Corner.{cornerCount}
+use Rattle.semantics.specs.Node.{factor, cellCount, cellNumber, cellAt, nodeCount}
+use Rattle.reader.specs.Fields.{Fields}
+use Rattle.reader.specs.Meaning.{modeOf, automaton}
+use Rattle.reader.specs.Held.{IsTable, held, fields}
+use Rattle.reader.specs.declared.Table.{Table}
+use Rattle.regions.specs.Held.{mostTimers, pad}
+use Rattle.regions.specs.Nodes.{mostCeiling, CeilingsFew, Padded}
+use Rattle.regions.specs.Laws.Pads.{getD-pad}
+
+-- A cell of at most three timers has 1 to 75 corners.
+pub corners-few : (n : ℕ) → n ≤ 3 → (1 ≤ cornerCount n 1) × (cornerCount n 1 ≤ 75)
+corners-few zero h = omega arith
+corners-few (suc zero) h = omega arith
+corners-few (suc (suc zero)) h = omega arith
+corners-few (suc (suc (suc zero))) h = omega arith
+corners-few (suc (suc (suc (suc n)))) h = absurd (omega arith)
+
+-- Factors behind the last ceiling are 1, and digits there are 0.
+count-zeros : (k : ℕ) → cellCount (replicate k 0) ≡ 1
+count-zeros zero = refl
+count-zeros (suc k) = ap (λ (m : ℕ). m * 1) (count-zeros k)
+
+count-behind : (cs : List ℕ) (k : ℕ) → cellCount (cs ++ replicate k 0) ≡ cellCount cs
+count-behind [] k = count-zeros k
+count-behind (c ∷ cs) k = ap (λ (m : ℕ). m * factor c) (count-behind cs k)
+
+number-zeros : (k : ℕ) → cellNumber (replicate k 0) (replicate k 0) ≡ 0
+number-zeros zero = refl
+number-zeros (suc k) = ap (λ (m : ℕ). m * 1 + 0) (number-zeros k)
+
+number-behind : (cs w : List ℕ) (k : ℕ) → length w ≡ length cs → cellNumber (cs ++ replicate k 0) (w ++ replicate k 0) ≡ cellNumber cs w
+number-behind [] [] k h = number-zeros k
+number-behind [] (x ∷ w) k h = absurd (omega arith)
+number-behind (c ∷ cs) [] k h = absurd (omega arith)
+number-behind (c ∷ cs) (x ∷ w) k h = ap (λ (m : ℕ). m * factor c + x) (number-behind cs w k (omega arith))
+
+at-zeros : (k i : ℕ) → cellAt (replicate k 0) i ≡ replicate k 0
+at-zeros zero i = refl
+at-zeros (suc k) i = ap₂ (λ (d : ℕ) (l : List ℕ). d ∷ l) (mod-one i) (at-zeros k (i / 1))
+
+at-behind : (cs : List ℕ) (k i : ℕ) → cellAt (cs ++ replicate k 0) i ≡ cellAt cs i ++ replicate k 0
+at-behind [] k i = at-zeros k i
+at-behind (c ∷ cs) k i = ap (λ (l : List ℕ). i % factor c ∷ l) (at-behind cs k (i / factor c))
+
+at-length : (cs : List ℕ) (i : ℕ) → length (cellAt cs i) ≡ length cs
+at-length [] i = refl
+at-length (c ∷ cs) i = ap suc (at-length cs (i / factor c))
+
+module _ (n : ℕ) (ceilings : List ℕ) (p : Padded n ceilings) where
+  pub count-padded : cellCount ceilings ≡ cellCount (take n ceilings)
+  count-padded = ap cellCount p ∙ count-behind (take n ceilings) (mostTimers - length (take n ceilings))
+
+  pub number-padded : (w : List ℕ) → length w ≡ length (take n ceilings) → cellNumber ceilings (pad mostTimers w) ≡ cellNumber (take n ceilings) w
+  number-padded w h =
+      ap (λ (l : List ℕ). cellNumber l (pad mostTimers w)) p
+      ∙ ap (λ (k : ℕ). cellNumber (pad mostTimers (take n ceilings)) (w ++ replicate (mostTimers - k) 0)) h
+      ∙ number-behind (take n ceilings) w (mostTimers - length (take n ceilings)) h
+
+  pub at-padded : (i : ℕ) → cellAt ceilings i ≡ pad mostTimers (cellAt (take n ceilings) i)
+  at-padded i =
+      ap (λ (l : List ℕ). cellAt l i) p ∙ at-behind (take n ceilings) (mostTimers - length (take n ceilings)) i
+      ∙ ap (λ (k : ℕ). cellAt (take n ceilings) i ++ replicate (mostTimers - k) 0) (sym (at-length (take n ceilings) i))
+
+-- The ceilings of a table.
+getD-all : (D : ℕ → Type 0) (l : List ℕ) → ((c : ℕ) → List·Memᴰ c l → D c) → D 0 → (i : ℕ) → D (getD l i 0)
+getD-all D [] h z i = z
+getD-all D (c ∷ l) h z zero = h c (List·Memᴰ.List·Memᴰ·head refl)
+getD-all D (c ∷ l) h z (suc i) = getD-all D l (λ d m. h d (List·Memᴰ.List·Memᴰ·tail m)) z i
+
+module _ (t : Table) (h : IsTable t) where
+  pub table-padded : Padded (t .timers) (t .ceilings)
+  unfolding held fields
+  table-padded = ap (λ (u : Table). u .ceilings) (h .holds)
+
+  pub table-few : CeilingsFew (t .ceilings)
+  unfolding fields
+  table-few i =
+      let few = getD-all (λ c. c ≤ mostCeiling) (take (t .timers) (t .ceilings)) (λ c m. h .range .ceilings-range c m .1) (omega arith) i in
+      rw (ap (λ (l : List ℕ). getD l i 0) table-padded ∙ getD-pad mostTimers (take (t .timers) (t .ceilings)) i) few
+
+  pub table-timers : t .timers ≡ length (take (t .timers) (t .ceilings))
+  unfolding held fields
+  table-timers = ap (λ (u : Table). u .timers) (h .holds)
+
+  pub timers-few : (1 ≤ t .timers) × (t .timers ≤ 3)
+  unfolding fields
+  timers-few = omega (arith, table-timers, h .range .timers-range)
+
+  pub table-modes : t .modes ≡ length (automaton (fields t) .modes)
+  unfolding held
+  table-modes = ap (λ (u : Table). u .modes) (h .holds) ∙ sym (length-map (fields t .modes) modeOf)
+
+  pub modes-few : (1 ≤ t .modes) × (t .modes ≤ 16)
+  modes-few = omega (arith, table-modes, h .range .modes-range, length-map (fields t .modes) modeOf)
+
+  -- E by the table's own fields.
+  pub table-nodes : t .modes * cellCount (t .ceilings) * cornerCount (t .timers) 1 ≡ nodeCount (automaton (fields t))
+  unfolding nodeCount fields
+  table-nodes =
+      ap (λ (m : ℕ). m * cellCount (t .ceilings) * cornerCount (t .timers) 1) table-modes
+      ∙ ap₂ (λ (c n : ℕ). length (automaton (fields t) .modes) * c * cornerCount n 1) (count-padded (t .timers) (t .ceilings) table-padded) table-timers

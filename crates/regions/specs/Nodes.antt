@@ -1,0 +1,52 @@
+-- How many nodes a table has, and how the struct `NodeAt` holds a node.
+-- Assumes nothing.
+use mathlib.Core.Path.{_≡_}
+use mathlib.Core.Bool.{cond}
+use mathlib.Core.List.{List}
+use Prim.Native.Nat.{ℕ, _≤_}
+use lib.Dec.{leb}
+use lib.ListN.{getD, take}
+use Rattle.semantics.specs.Node.{Node, factor}
+use Rattle.regions.specs.declared.nodes.Nodes.{Nodes}
+use Rattle.regions.specs.declared.nodes.Nodes.the-variants.{Count, TooMany}
+use Rattle.regions.specs.declared.nodes.NodeAt.{NodeAt}
+use Rattle.regions.specs.Held.{mostTimers, pad, packCorner}
+
+-- "n ceilings, 1 to 15".
+abbrev pub mostCeiling : ℕ
+mostCeiling = 15
+
+-- No ceiling of the array is above it.
+abbrev pub CeilingsFew : List ℕ → Type 0
+CeilingsFew ceilings = (i : ℕ) → getD ceilings i 0 ≤ mostCeiling
+
+-- The factor of a ceiling, from 1 to 16.
+pub record IsFactor (ceiling r : ℕ) : Type 0 where
+  pub is : r ≡ factor ceiling
+  pub low : 1 ≤ r
+  pub high : r ≤ 16
+
+-- There are at most so many modes and so many cells; and no three bytes for whole parts give a greater cell number.
+abbrev pub mostModes : ℕ
+mostModes = 16
+
+abbrev pub mostCells : ℕ
+mostCells = 4096
+
+abbrev pub mostCellNumber : ℕ
+mostCellNumber = 69615
+
+-- "E may be at most 65,536."
+abbrev pub mostNodes : ℕ
+mostNodes = 65536
+
+abbrev pub bounded : ℕ → Nodes
+bounded e = cond (leb e mostNodes) (Count e) TooMany
+
+-- Behind the first n ceilings there is 0.
+abbrev pub Padded : ℕ → List ℕ → Type 0
+Padded n ceilings = ceilings ≡ pad mostTimers (take n ceilings)
+
+-- The struct that holds a node.
+unfoldable pub packNode : Node → NodeAt
+packNode x = record { mode = x .mode; whole = pad mostTimers (x .whole); corner = packCorner (x .corner) }

@@ -5,7 +5,9 @@ pub mod Region
 pub mod Point
 pub mod Corner
 pub mod Node
+pub mod Path
 -- Theorems:
 pub mod Regions
 pub mod Corners
 pub mod Nodes
+pub mod Paths

@@ -114,3 +114,16 @@ Relaxed g d v e = (c : Cost) → d (e .to) ≡ reached c → suc (c .steps) < g 
 pub record Settled (g : Graph) (d : ℕ → Entry) : Type 0 where
   pub targets : (v : ℕ) → v < g .nodes → Target g v → d v ≡ reached (cost 0 0)
   pub relaxed : (v : ℕ) (e : Edge) → v < g .nodes → Leaves g v e → Relaxed g d v e
+
+-- A table in words, two for each node: the charge of node v stands at 2v and its steps at 2v + 1. An unreached node has 0xFFFF_FFFF in both.
+abbrev pub infinity : ℕ
+infinity = 0xFFFF_FFFF
+
+abbrev pub chargeAt : List ℕ → ℕ → ℕ
+chargeAt ws v = getD ws (2 * v) 0
+
+abbrev pub stepsAt : List ℕ → ℕ → ℕ
+stepsAt ws v = getD ws (2 * v + 1) 0
+
+unfoldable pub table : List ℕ → ℕ → Entry
+table ws v = cond (eqb (chargeAt ws v) infinity) unreached (reached (cost (chargeAt ws v) (stepsAt ws v)))

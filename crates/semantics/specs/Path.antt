@@ -115,6 +115,33 @@ pub record Settled (g : Graph) (d : ℕ → Entry) : Type 0 where
   pub targets : (v : ℕ) → v < g .nodes → Target g v → d v ≡ reached (cost 0 0)
   pub relaxed : (v : ℕ) (e : Edge) → v < g .nodes → Leaves g v e → Relaxed g d v e
 
+infix 50 _⊑_
+
+-- Label order: lists of labels by the first label in which they differ, and a list before those that go on from it. ls comes no later than ms.
+abbrev pub _⊑_ : List ℕ → List ℕ → Type 0
+_⊑_ [] ms = Unit {0}
+_⊑_ (l ∷ ls) [] = ⊥
+_⊑_ (l ∷ ls) (m ∷ ms) = (l < m) ⊎ ((l ≡ m) × (ls ⊑ ms))
+
+-- The first of the lists that are so, in label order.
+pub record First (So : List ℕ → Type 0) (labels : List ℕ) : Type 0 where
+  pub so : So labels
+  pub first : (ls : List ℕ) → So ls → labels ⊑ ls
+
+-- "Among chains that end in the goal with a corner at the least charge, the route is one with fewest steps; among those the first in byte
+-- order." Comes ls charge says that the labels ls lead into the targets at this charge: c is the least cost of all that do, and the labels are
+-- the first of those that do at this cost.
+pub record Best (Comes : List ℕ → ℕ → Type 0) (c : Cost) (labels : List ℕ) : Type 0 where
+  pub least : (ls : List ℕ) (charge : ℕ) → Comes ls charge → c ≼ cost charge (length ls)
+  pub first : First (λ ls. Comes ls (c .charge) × (length ls ≡ c .steps)) labels
+
+-- A path from v has the labels ls and this charge.
+pub record HasLabels (g : Graph) (v : ℕ) (ls : List ℕ) (charge : ℕ) : Type 0 where
+  pub path : List Edge
+  pub is-path : IsPath g v path
+  pub labelled : labelsOf path ≡ ls
+  pub charged : chargeOf path ≡ charge
+
 -- A table in words, two for each node: the charge of node v stands at 2v and its steps at 2v + 1. An unreached node has 0xFFFF_FFFF in both.
 abbrev pub infinity : ℕ
 infinity = 0xFFFF_FFFF

@@ -4,6 +4,8 @@ pub mod Loops
 pub mod Cost
 pub mod Distance
 pub mod Least
+pub mod Labels
+pub mod System
 pub mod Words
 pub mod Sum
 pub mod Sound

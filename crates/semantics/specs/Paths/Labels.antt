@@ -1,0 +1,74 @@
+-- Label order, and the best of some lists of labels: there is but one, and it begins with the least label with which a list of its cost begins.
+-- Assumes nothing.
+use mathlib.Core.Path.{_≡_, refl}
+use mathlib.Core.Logic.{_⊎_, inl, inr}
+use mathlib.Core.List.{List, [], _∷_}
+use Prim.Native.Nat.{ℕ, _<_, _≤_}
+use native.Mathlib.Decide.{decLt}
+use native.Mathlib.Omega.{arith}
+use lib.ListN.{length}
+use Rattle.semantics.specs.Path.{Cost, cost, _≼_, _⊑_, First, Best}
+use Rattle.semantics.specs.Paths.Cost.{cost-trans, cost-antisymm}
+
+pub labels-antisymm : (ls ms : List ℕ) → ls ⊑ ms → ms ⊑ ls → ls ≡ ms
+labels-antisymm [] [] h k = refl
+labels-antisymm [] (m ∷ ms) h k = absurd k
+labels-antisymm (l ∷ ls) [] h k = absurd h
+labels-antisymm (l ∷ ls) (m ∷ ms) (inl x) (inl y) = absurd (omega arith)
+labels-antisymm (l ∷ ls) (m ∷ ms) (inl x) (inr y) = absurd (omega arith)
+labels-antisymm (l ∷ ls) (m ∷ ms) (inr x) (inl y) = absurd (omega arith)
+labels-antisymm (l ∷ ls) (m ∷ ms) (inr x) (inr y) = let e = labels-antisymm ls ms (x .1) (y .1) in cc
+
+pub first-unique : {So : List ℕ → Type 0} (ls ms : List ℕ) → First So ls → First So ms → ls ≡ ms
+first-unique ls ms x y = labels-antisymm ls ms (x .first ms (y .so)) (y .first ls (x .so))
+
+-- Every list that is so has a first label; l is the least of them, and after it ls is the first of what may follow.
+pub first-cons :
+    {So Rest : List ℕ → Type 0} (l : ℕ) (ls : List ℕ) → (So [] → ⊥) → ((m : ℕ) (ms : List ℕ) → So (m ∷ ms) → l ≤ m)
+    → ((ms : List ℕ) → So (l ∷ ms) → Rest ms) → ((ms : List ℕ) → Rest ms → So (l ∷ ms)) → First Rest ls → First So (l ∷ ls)
+first-cons {So} {Rest} l ls some least rest so f = record { so = so ls (f .so); first = λ ms x. at ms x }
+  where
+    same : (m : ℕ) (ms : List ℕ) → So (m ∷ ms) → Dec (l < m) → (l < m) ⊎ ((l ≡ m) × (ls ⊑ ms))
+    same m ms x (yes h) = inl h
+    same m ms x (no h) =
+        let e : l ≡ m = omega (arith, least m ms x) in
+        inr (e, f .first ms (rest ms (rw e x)))
+
+    at : (ms : List ℕ) → So ms → (l ∷ ls) ⊑ ms
+    at [] x = some x
+    at (m ∷ ms) x = same m ms x (decLt l m)
+
+module _ {Comes : List ℕ → ℕ → Type 0} (c b : Cost) (ls ms : List ℕ) (x : Best Comes c ls) (y : Best Comes b ms) where
+  best-cost : c ≡ b
+  best-cost =
+      let p = x .least ms (b .charge) (y .first .so .0) in
+      let q = y .least ls (c .charge) (x .first .so .0) in
+      cost-antisymm c b (rw (y .first .so .1) at p) (rw (x .first .so .1) at q)
+
+  pub best-unique : (c ≡ b) × (ls ≡ ms)
+  best-unique = (best-cost, first-unique ls ms (x .first) (rw best-cost (y .first)))
+
+-- The best of the lists of fewer than n labels is the best of all, if for each list one of them costs no more.
+pub best-short :
+    (Comes : List ℕ → ℕ → Type 0) (n : ℕ)
+    → ((ls : List ℕ) (charge : ℕ) → Comes ls charge → (ms : List ℕ) × (b : ℕ) × Comes ms b × (length ms < n) × (cost b (length ms) ≼ cost charge (length ls)))
+    → (c : Cost) (labels : List ℕ) → Best (λ ls charge. Comes ls charge × (length ls < n)) c labels → Best Comes c labels
+best-short Comes n short c labels x = record {
+  least = λ ls charge h. let s = short ls charge h in cost-trans c (cost (s .1) (length (s .0))) (cost charge (length ls)) (x .least (s .0) (s .1) (s .2, s .3)) (s .4);
+  first = record {
+    so = (x .first .so .0 .0, x .first .so .1);
+    first = λ ls h. x .first .first ls ((h .0, omega (arith, x .first .so .0 .1, x .first .so .1, h .1)), h .1);
+  };
+}
+
+-- And the other way round, if it has fewer than n labels.
+pub best-among :
+    (Comes : List ℕ → ℕ → Type 0) (n : ℕ) (c : Cost) (labels : List ℕ) → c .steps < n → Best Comes c labels
+    → Best (λ ls charge. Comes ls charge × (length ls < n)) c labels
+best-among Comes n c labels few x = record {
+  least = λ ls charge h. x .least ls charge (h .0);
+  first = record {
+    so = ((x .first .so .0, omega (arith, x .first .so .1)), x .first .so .1);
+    first = λ ls h. x .first .first ls (h .0 .0, h .1);
+  };
+}

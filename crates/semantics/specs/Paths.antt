@@ -6,6 +6,7 @@ pub mod Distance
 pub mod Least
 pub mod Labels
 pub mod System
+pub mod Route
 pub mod Words
 pub mod Sum
 pub mod Sound

@@ -7,7 +7,7 @@ use native.Mathlib.Nat.{le-trans, mul-le-mul-right}
 use native.Mathlib.Decide.{decLe}
 use native.Mathlib.Omega.{arith}
 use lib.ListN.{length}
-use Rattle.semantics.specs.Path.{Edge, Graph, Closed, WeightsWithin, IsPath, Cost, costOf, _≼_, HasCost, Least, Entry, unreached, reached, LeastCosts}
+use Rattle.semantics.specs.Path.{Edge, Graph, Closed, WeightsWithin, IsPath, Cost, costOf, _≼_, HasCost, Least, Entry, unreached, reached, LeastCosts, Within}
 use Rattle.semantics.specs.Paths.Cost.{cost-antisymm, cost-fewer, not-both}
 use Rattle.semantics.specs.Paths.Loops.{loop-removal, path-charge}
 
@@ -38,6 +38,13 @@ module _ (g : Graph) (closed : Closed g) (v : ℕ) (h : v < g .nodes) (c : Cost)
 
 -- What a table of least costs says of a node is the only thing to say.
 module _ (g : Graph) (d : ℕ → Entry) (exact : LeastCosts g d) (v : ℕ) (h : v < g .nodes) where
+  pub least-within : (p : List Edge) → IsPath g v p → Within (d v) (costOf p)
+  least-within p w = at (d v) refl
+    where
+      at : (x : Entry) → d v ≡ x → Within (d v) (costOf p)
+      at unreached q = absurd (exact .no-path v h q p w)
+      at (reached c) q = rw q (exact .least v c h q .least p w)
+
   pub least-reached : (c : Cost) → Least g v c → d v ≡ reached c
   least-reached c l = at (d v) refl
     where

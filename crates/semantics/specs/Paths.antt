@@ -7,6 +7,8 @@ pub mod Least
 pub mod Labels
 pub mod System
 pub mod Route
+pub mod Along
+pub mod Greedy
 pub mod Words
 pub mod Sum
 pub mod Sound

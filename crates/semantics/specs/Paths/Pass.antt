@@ -2,7 +2,7 @@
 -- follow one another.
 -- Assumes nothing.
 use mathlib.Core.Path.{_≡_, refl, _∙_}
-use mathlib.Core.Bool.{Bool, true, false}
+use mathlib.Core.Bool.{Bool, true, false, _||_, or-true, or-false}
 use mathlib.Core.Logic.{_≢_}
 use mathlib.Core.List.{List, _∷_}
 use Prim.Native.Nat.{ℕ, suc, _+_, _*_, _-_, _≤_, _<_}
@@ -23,18 +23,12 @@ pub record Pass (g : Graph) (Done : List ℕ → Type 0) (ws ws′ : List ℕ) (
   pub idle : changed ≡ false → (ws′ ≡ ws) × Done ws
   pub falls : changed ≡ true → total (g .nodes) ws′ < total (g .nodes) ws
 
--- The flag of two passes.
-abbrev pub or : Bool → Bool → Bool
-or true b = true
-or false b = b
+-- The flag of two passes, where the second stored something, and where it did not.
+pub flag-set : (a b : Bool) → b ≡ true → (a || b) ≡ true
+flag-set a b e = rw e (or-true a)
 
-pub or-second : (a b : Bool) → b ≡ true → or a b ≡ true
-or-second true b e = refl
-or-second false b e = e
-
-pub or-first : (a b : Bool) → b ≡ false → or a b ≡ a
-or-first true b e = refl
-or-first false b e = e
+pub flag-kept : (a b : Bool) → b ≡ false → (a || b) ≡ a
+flag-kept a b e = rw e (or-false a)
 
 -- What holds of each number below n, and of each from v on that is below n.
 abbrev pub Below : (ℕ → List ℕ → Type 0) → ℕ → List ℕ → Type 0
@@ -93,7 +87,7 @@ pass-stored {g} {Done} {ws} v e c charged counted small ok h to l end known few 
 module _ {g : Graph} {ws ws′ ws″ : List ℕ} where
   -- One pass, and then another. The flag k says whether either stored anything.
   pub pass-then :
-      {Done Done′ : List ℕ → Type 0} (a b : Bool) {k : Bool} → or a b ≡ k → Pass g Done ws ws′ a → Pass g Done′ ws′ ws″ b
+      {Done Done′ : List ℕ → Type 0} (a b : Bool) {k : Bool} → (a || b) ≡ k → Pass g Done ws ws′ a → Pass g Done′ ws′ ws″ b
       → Pass g (λ l. Done l × Done′ l) ws ws″ k
   pass-then {Done} {Done′} a b {k} flag p q = record {
     sound = q .sound;
@@ -104,19 +98,19 @@ module _ {g : Graph} {ws ws′ ws″ : List ℕ} where
     falls = λ e. falls a b p q (flag ∙ e);
   }
     where
-      idle : (a b : Bool) → Pass g Done ws ws′ a → Pass g Done′ ws′ ws″ b → or a b ≡ false → (ws″ ≡ ws) × (Done ws × Done′ ws)
+      idle : (a b : Bool) → Pass g Done ws ws′ a → Pass g Done′ ws′ ws″ b → (a || b) ≡ false → (ws″ ≡ ws) × (Done ws × Done′ ws)
       idle true b p q e = let z : _≡_ {A = ℕ} 0 1 = cc in absurd (omega arith)
       idle false b p q e =
           let x = p .idle refl in
           let y = q .idle e in
           (y .0 ∙ x .0, (x .1, rw (x .0) at (y .1)))
 
-      falls : (a b : Bool) → Pass g Done ws ws′ a → Pass g Done′ ws′ ws″ b → or a b ≡ true → total (g .nodes) ws″ < total (g .nodes) ws
+      falls : (a b : Bool) → Pass g Done ws ws′ a → Pass g Done′ ws′ ws″ b → (a || b) ≡ true → total (g .nodes) ws″ < total (g .nodes) ws
       falls true true p q e = omega (arith, p .falls refl, q .falls refl)
       falls true false p q e = rw (q .idle refl .0) (p .falls refl)
       falls false b p q e = rw (← p .idle refl .0) (q .falls e)
 
-  module _ {Done : ℕ → List ℕ → Type 0} (a b : Bool) {k : Bool} (flag : or a b ≡ k) where
+  module _ {Done : ℕ → List ℕ → Type 0} (a b : Bool) {k : Bool} (flag : (a || b) ≡ k) where
     -- A pass over the numbers below i, and then over i.
     pub pass-up : (i : ℕ) → Pass g (Below Done i) ws ws′ a → Pass g (Done i) ws′ ws″ b → Pass g (Below Done (i + 1)) ws ws″ k
     pass-up i p q = pass-map (λ t u h. at t u h (ℕ-discrete u i)) (pass-then a b flag p q)

@@ -9,6 +9,7 @@ pub mod System
 pub mod Route
 pub mod Along
 pub mod Greedy
+pub mod Plain
 pub mod Words
 pub mod Sum
 pub mod Sound

@@ -48,6 +48,14 @@ module _ {Comes : List ℕ → ℕ → Type 0} (c b : Cost) (ls ms : List ℕ) (
   pub best-unique : (c ≡ b) × (ls ≡ ms)
   best-unique = (best-cost, first-unique ls ms (x .first) (rw best-cost (y .first)))
 
+pub best-map :
+    {Comes Comes′ : List ℕ → ℕ → Type 0} (c : Cost) (ls : List ℕ) → ((ms : List ℕ) (b : ℕ) → Comes ms b → Comes′ ms b)
+    → ((ms : List ℕ) (b : ℕ) → Comes′ ms b → Comes ms b) → Best Comes c ls → Best Comes′ c ls
+best-map c ls to from x = record {
+  least = λ ms b h. x .least ms b (from ms b h);
+  first = record { so = (to ls (c .charge) (x .first .so .0), x .first .so .1); first = λ ms h. x .first .first ms (from ms (c .charge) (h .0), h .1) };
+}
+
 -- The best of the lists of fewer than n labels is the best of all, if for each list one of them costs no more.
 pub best-short :
     (Comes : List ℕ → ℕ → Type 0) (n : ℕ)

@@ -123,10 +123,10 @@ _⊑_ [] ms = Unit {0}
 _⊑_ (l ∷ ls) [] = ⊥
 _⊑_ (l ∷ ls) (m ∷ ms) = (l < m) ⊎ ((l ≡ m) × (ls ⊑ ms))
 
--- The first of the lists that are so, in label order.
-pub record First (So : List ℕ → Type 0) (labels : List ℕ) : Type 0 where
-  pub so : So labels
-  pub first : (ls : List ℕ) → So ls → labels ⊑ ls
+-- The first of the lists that are good, in label order.
+pub record First (Good : List ℕ → Type 0) (labels : List ℕ) : Type 0 where
+  pub good : Good labels
+  pub first : (ls : List ℕ) → Good ls → labels ⊑ ls
 
 -- "Among chains that end in the goal with a corner at the least charge, the route is one with fewest steps; among those the first in byte
 -- order." Comes ls charge says that the labels ls lead into the targets at this charge: c is the least cost of all that do, and the labels are

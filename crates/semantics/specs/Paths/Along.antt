@@ -1,13 +1,14 @@
 -- The best route from a start state, for a loop that adds a label at a time.
 -- Assumes nothing.
-use mathlib.Core.Path.{_≡_, _∙_, ap}
+use mathlib.Core.Path.{_≡_, refl, _∙_, ap}
 use mathlib.Core.List.{List, [], _∷_, _++_, append-assoc, append-nil}
-use mathlib.Core.Logic.{inr}
+use mathlib.Core.Logic.{inr, _≢_}
 use Prim.Native.Nat.{ℕ, suc, _+_, _<_}
 use native.Mathlib.Omega.{arith}
 use lib.ListN.{length, length-append}
-use Rattle.semantics.specs.Path.{Graph, Cost, cost, Entry, unreached, reached, Best}
+use Rattle.semantics.specs.Path.{Graph, Cost, cost, Entry, unreached, reached, Best, infinity, chargeAt, stepsAt, table}
 use Rattle.semantics.specs.Paths.System.{System, Arrives, path-behind}
+use Rattle.semantics.specs.Paths.Words.{table-holds, reached-words}
 use Rattle.semantics.specs.Paths.Route.{OnTrack, Floor, Picks, Onward, FirstFrom, Routing, floor-least, floor-step, track-onward, first-more, first-none}
 
 -- A state to start from: its single corner is node v, at the price 0.
@@ -24,6 +25,26 @@ pub record Along (g : Graph) (s : System) (Valid : s .State → Type 0) (d : ℕ
   pub floor : Floor s d x (cost (c .charge) n)
   pub track : OnTrack s d x (cost (c .charge) n)
   pub rest : (ms : List ℕ) → FirstFrom g s x (cost (c .charge) n) ms → FirstFrom g s x₀ c (ls ++ ms)
+
+-- A state on track by a table in words: some corner's price and charge word add up to the charge, and its steps word is the steps to come.
+module _ (s : System) (ws : List ℕ) (x : s .State) (c : Cost) where
+  pub track-words :
+      (j : ℕ) → j < s .corners x → chargeAt ws (s .node x j) ≢ infinity → s .price x j + chargeAt ws (s .node x j) ≡ c .charge
+      → stepsAt ws (s .node x j) ≡ c .steps → OnTrack s (table ws) x c
+  track-words j h known sum steps = record {
+    corner = j;
+    among = h;
+    left = chargeAt ws (s .node x j);
+    entry = table-holds ws (s .node x j) (cost (chargeAt ws (s .node x j)) (c .steps)) (record { known = known; charge = refl; steps = steps });
+    sum = sum;
+  }
+
+  pub words-track :
+      OnTrack s (table ws) x c
+      → (j : ℕ) × (j < s .corners x) × (chargeAt ws (s .node x j) ≢ infinity) × (s .price x j + chargeAt ws (s .node x j) ≡ c .charge) × (stepsAt ws (s .node x j) ≡ c .steps)
+  words-track t =
+      let w = reached-words ws (s .node x (t .corner)) (cost (t .left) (c .steps)) (t .entry) in
+      (t .corner, t .among, w .known, omega (arith, w .charge, t .sum), w .steps)
 
 module _ {g : Graph} {s : System} {Valid : s .State → Type 0} {d : ℕ → Entry} (r : Routing g s Valid d) where
   module _ (x : s .State) (v : ℕ) (start : StartsAt s x v) where

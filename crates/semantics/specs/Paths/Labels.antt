@@ -19,31 +19,31 @@ labels-antisymm (l ∷ ls) (m ∷ ms) (inl x) (inr y) = absurd (omega arith)
 labels-antisymm (l ∷ ls) (m ∷ ms) (inr x) (inl y) = absurd (omega arith)
 labels-antisymm (l ∷ ls) (m ∷ ms) (inr x) (inr y) = let e = labels-antisymm ls ms (x .1) (y .1) in cc
 
-pub first-unique : {So : List ℕ → Type 0} (ls ms : List ℕ) → First So ls → First So ms → ls ≡ ms
-first-unique ls ms x y = labels-antisymm ls ms (x .first ms (y .so)) (y .first ls (x .so))
+pub first-unique : {Good : List ℕ → Type 0} (ls ms : List ℕ) → First Good ls → First Good ms → ls ≡ ms
+first-unique ls ms x y = labels-antisymm ls ms (x .first ms (y .good)) (y .first ls (x .good))
 
 -- Every list that is so has a first label; l is the least of them, and after it ls is the first of what may follow.
 pub first-cons :
-    {So Rest : List ℕ → Type 0} (l : ℕ) (ls : List ℕ) → (So [] → ⊥) → ((m : ℕ) (ms : List ℕ) → So (m ∷ ms) → l ≤ m)
-    → ((ms : List ℕ) → So (l ∷ ms) → Rest ms) → ((ms : List ℕ) → Rest ms → So (l ∷ ms)) → First Rest ls → First So (l ∷ ls)
-first-cons {So} {Rest} l ls some least rest so f = record { so = so ls (f .so); first = λ ms x. at ms x }
+    {Good Rest : List ℕ → Type 0} (l : ℕ) (ls : List ℕ) → (Good [] → ⊥) → ((m : ℕ) (ms : List ℕ) → Good (m ∷ ms) → l ≤ m)
+    → ((ms : List ℕ) → Good (l ∷ ms) → Rest ms) → ((ms : List ℕ) → Rest ms → Good (l ∷ ms)) → First Rest ls → First Good (l ∷ ls)
+first-cons {Good} {Rest} l ls some least rest so f = record { good = so ls (f .good); first = λ ms x. at ms x }
   where
-    same : (m : ℕ) (ms : List ℕ) → So (m ∷ ms) → Dec (l < m) → (l < m) ⊎ ((l ≡ m) × (ls ⊑ ms))
+    same : (m : ℕ) (ms : List ℕ) → Good (m ∷ ms) → Dec (l < m) → (l < m) ⊎ ((l ≡ m) × (ls ⊑ ms))
     same m ms x (yes h) = inl h
     same m ms x (no h) =
         let e : l ≡ m = omega (arith, least m ms x) in
         inr (e, f .first ms (rest ms (rw e x)))
 
-    at : (ms : List ℕ) → So ms → (l ∷ ls) ⊑ ms
+    at : (ms : List ℕ) → Good ms → (l ∷ ls) ⊑ ms
     at [] x = some x
     at (m ∷ ms) x = same m ms x (decLt l m)
 
 module _ {Comes : List ℕ → ℕ → Type 0} (c b : Cost) (ls ms : List ℕ) (x : Best Comes c ls) (y : Best Comes b ms) where
   best-cost : c ≡ b
   best-cost =
-      let p = x .least ms (b .charge) (y .first .so .0) in
-      let q = y .least ls (c .charge) (x .first .so .0) in
-      cost-antisymm c b (rw (y .first .so .1) at p) (rw (x .first .so .1) at q)
+      let p = x .least ms (b .charge) (y .first .good .0) in
+      let q = y .least ls (c .charge) (x .first .good .0) in
+      cost-antisymm c b (rw (y .first .good .1) at p) (rw (x .first .good .1) at q)
 
   pub best-unique : (c ≡ b) × (ls ≡ ms)
   best-unique = (best-cost, first-unique ls ms (x .first) (rw best-cost (y .first)))
@@ -53,7 +53,7 @@ pub best-map :
     → ((ms : List ℕ) (b : ℕ) → Comes′ ms b → Comes ms b) → Best Comes c ls → Best Comes′ c ls
 best-map c ls to from x = record {
   least = λ ms b h. x .least ms b (from ms b h);
-  first = record { so = (to ls (c .charge) (x .first .so .0), x .first .so .1); first = λ ms h. x .first .first ms (from ms (c .charge) (h .0), h .1) };
+  first = record { good = (to ls (c .charge) (x .first .good .0), x .first .good .1); first = λ ms h. x .first .first ms (from ms (c .charge) (h .0), h .1) };
 }
 
 -- The best of the lists of fewer than n labels is the best of all, if for each list one of them costs no more.
@@ -64,8 +64,8 @@ pub best-short :
 best-short Comes n short c labels x = record {
   least = λ ls charge h. let s = short ls charge h in cost-trans c (cost (s .1) (length (s .0))) (cost charge (length ls)) (x .least (s .0) (s .1) (s .2, s .3)) (s .4);
   first = record {
-    so = (x .first .so .0 .0, x .first .so .1);
-    first = λ ls h. x .first .first ls ((h .0, omega (arith, x .first .so .0 .1, x .first .so .1, h .1)), h .1);
+    good = (x .first .good .0 .0, x .first .good .1);
+    first = λ ls h. x .first .first ls ((h .0, omega (arith, x .first .good .0 .1, x .first .good .1, h .1)), h .1);
   };
 }
 
@@ -76,7 +76,7 @@ pub best-among :
 best-among Comes n c labels few x = record {
   least = λ ls charge h. x .least ls charge (h .0);
   first = record {
-    so = ((x .first .so .0, omega (arith, x .first .so .1)), x .first .so .1);
+    good = ((x .first .good .0, omega (arith, x .first .good .1)), x .first .good .1);
     first = λ ls h. x .first .first ls (h .0 .0, h .1);
   };
 }

@@ -169,7 +169,7 @@ module _ {g : Graph} {s : System} {Valid : s .State → Type 0} {d : ℕ → Ent
 
   -- With no steps to come there are no labels to add.
   pub first-none : (x : s .State) (C : ℕ) → Valid x → Floor s d x (cost C 0) → OnTrack s d x (cost C 0) → FirstFrom g s x (cost C 0) []
-  first-none x C ok floor t = let a = track-arrives x (cost C 0) ok floor t in record { so = at (a .0) (a .1); first = λ ls h. tt }
+  first-none x C ok floor t = let a = track-arrives x (cost C 0) ok floor t in record { good = at (a .0) (a .1); first = λ ls h. tt }
     where
       at : (ls : List ℕ) → ArrivesAt g s x (cost C 0) ls → ArrivesAt g s x (cost C 0) []
       at [] a = a

@@ -9,7 +9,7 @@ use native.Mathlib.Decide.{ℕ-discrete}
 use native.Mathlib.Omega.{arith}
 use lib.ListN.{length}
 use Rattle.semantics.specs.Path.{Edge, Graph, Leaves, Target, Closed, WeightsWithin, Cost, cost, _≼_, _≺_, HasCost, Entry, unreached, reached, LeastCosts, Attained, Within, along, Relaxed, Settled, infinity, chargeAt, stepsAt, table}
-use Rattle.semantics.specs.Paths.Cost.{cost-trans, cost-weaken}
+use Rattle.semantics.specs.Paths.Cost.{cost-trans, cost-weaken, cost-both}
 use Rattle.semantics.specs.Paths.Loops.{path-charge}
 use Rattle.semantics.specs.Paths.Distance.{least-costs}
 use Rattle.semantics.specs.Paths.Words.{HoldsCost, table-reached, table-stored, table-other, reached-words, stored, stored-length, stored-charge, stored-steps, other-charge, other-steps}
@@ -72,6 +72,12 @@ pub relaxed-kept :
     → Relaxed g d′ v e
 relaxed-kept g d d′ v e lower same r c q few = lower (along e c) (r c (rw same at q) few)
 
+-- An edge from a node to itself improves nothing.
+pub relaxed-loop : (g : Graph) (d : ℕ → Entry) (v : ℕ) (e : Edge) → e .to ≡ v → Relaxed g d v e
+relaxed-loop g d v e same c q few =
+    let x : d v ≡ reached c = rw same at q in
+    rw x (cost-both c (along e c) (omega arith) (omega arith))
+
 -- A store for node v of a cost that is less than what stood there.
 module _ (g : Graph) (ws : List ℕ) (v : ℕ) (c : Cost) (ok : Sound g ws) (h : v < g .nodes) (known : c .charge ≢ infinity) (less : c ≺ costAt ws v) where
   fits : 2 * v + 1 < length ws
@@ -99,6 +105,16 @@ module _ (g : Graph) (ws : List ℕ) (v : ℕ) (c : Cost) (ok : Sound g ws) (h :
       at : c ≺ costAt ws v → weighed (stored ws v c) v < weighed ws v
       at (inl x) = omega (arith, stored-charge ws v c fits, stored-steps ws v c fits)
       at (inr x) = omega (arith, stored-charge ws v c fits, stored-steps ws v c fits)
+
+  -- The edge that offered the cost improves nothing any more.
+  pub relaxed-stored : (e : Edge) → c .charge ≡ e .weight + chargeAt ws (e .to) → c .steps ≡ suc (stepsAt ws (e .to)) → Relaxed g (table (stored ws v c)) v e
+  relaxed-stored e charged counted b q few = at (ℕ-discrete (e .to) v)
+    where
+      at : Dec (e .to ≡ v) → Within (table (stored ws v c) v) (along e b)
+      at (yes same) = relaxed-loop g (table (stored ws v c)) v e same b q few
+      at (no other) =
+          let w = reached-words ws (e .to) b (rw (table-other ws v c (e .to) other) at q) in
+          rw (table-stored ws v c fits known) (inr (omega (arith, w .charge), omega (arith, w .steps)))
 
   -- No target has its cost lowered.
   not-target : Target g v → ⊥

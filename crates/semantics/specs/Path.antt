@@ -1,5 +1,5 @@
--- Shortest paths in a graph: what the search computes, free of automata, regions and bytes. The nodes are the numbers below E, an edge has a
--- label and a weight, and some nodes are targets.
+-- Shortest paths in a graph: what the search computes, free of automata, regions and bytes. The nodes are the numbers below E, an edge has
+-- a label and a weight, and some nodes are targets.
 -- Assumes nothing.
 use mathlib.Core.Path.{_≡_}
 use mathlib.Core.Bool.{Bool, true, cond}
@@ -42,10 +42,11 @@ abbrev pub IsPath : Graph → ℕ → List Edge → Type 0
 IsPath g v [] = Target g v
 IsPath g v (e ∷ p) = Leaves g v e × IsPath g (e .to) p
 
--- The labels of a path, and its charge, which is the sum of its weights. Its number of steps is its length.
+-- The labels of a path.
 abbrev pub labelsOf : List Edge → List ℕ
 labelsOf p = map (λ e. e .label) p
 
+-- The charge of a path: the sum of its weights.
 abbrev pub chargeOf : List Edge → ℕ
 chargeOf [] = 0
 chargeOf (e ∷ p) = e .weight + chargeOf p
@@ -58,16 +59,18 @@ pub record Cost : Type 0 where
 abbrev pub cost : ℕ → ℕ → Cost
 cost charge steps = record { charge = charge; steps = steps }
 
+-- The cost of a path: its charge, and its number of edges as its steps.
 abbrev pub costOf : List Edge → Cost
 costOf p = cost (chargeOf p) (length p)
 
 infix 50 _≼_
 infix 50 _≺_
 
--- Costs are compared by charge, then by steps: a is at most b, and a is less than b.
+-- Costs are compared by charge, then by steps. a is at most b:
 abbrev pub _≼_ : Cost → Cost → Type 0
 _≼_ a b = (a .charge < b .charge) ⊎ ((a .charge ≡ b .charge) × (a .steps ≤ b .steps))
 
+-- a is less than b:
 abbrev pub _≺_ : Cost → Cost → Type 0
 _≺_ a b = (a .charge < b .charge) ⊎ ((a .charge ≡ b .charge) × (a .steps < b .steps))
 
@@ -106,7 +109,8 @@ Within (reached b) c = b ≼ c
 abbrev pub along : Edge → Cost → Cost
 along e c = cost (e .weight + c .charge) (suc (c .steps))
 
--- The entry of v is no worse than what edge e, which leaves v, offers. The step guard: an offer of E steps or more is passed over.
+-- Edge e, which leaves v, does not improve the entry of v: by the entry of its end it offers nothing less. The step guard: what has E steps
+-- or more is passed over.
 abbrev pub Relaxed : Graph → (ℕ → Entry) → ℕ → Edge → Type 0
 Relaxed g d v e = (c : Cost) → d (e .to) ≡ reached c → suc (c .steps) < g .nodes → Within (d v) (along e c)
 
@@ -117,20 +121,21 @@ pub record Settled (g : Graph) (d : ℕ → Entry) : Type 0 where
 
 infix 50 _⊑_
 
--- Label order: lists of labels by the first label in which they differ, and a list before those that go on from it. ls comes no later than ms.
+-- Label order: ls comes no later than ms. Lists of labels go by the first label in which they differ, and a list before those that go on
+-- from it.
 abbrev pub _⊑_ : List ℕ → List ℕ → Type 0
 _⊑_ [] ms = Unit {0}
 _⊑_ (l ∷ ls) [] = ⊥
 _⊑_ (l ∷ ls) (m ∷ ms) = (l < m) ⊎ ((l ≡ m) × (ls ⊑ ms))
 
--- The first of the lists that are good, in label order.
+-- The first of the good lists, in label order.
 pub record First (Good : List ℕ → Type 0) (labels : List ℕ) : Type 0 where
   pub good : Good labels
   pub first : (ls : List ℕ) → Good ls → labels ⊑ ls
 
 -- "Among chains that end in the goal with a corner at the least charge, the route is one with fewest steps; among those the first in byte
--- order." Comes ls charge says that the labels ls lead into the targets at this charge: c is the least cost of all that do, and the labels are
--- the first of those that do at this cost.
+-- order." Comes ls charge says that the labels ls lead into the targets at this charge. Then c is the least cost of all that do, and the
+-- labels are the first of those that do at this cost.
 pub record Best (Comes : List ℕ → ℕ → Type 0) (c : Cost) (labels : List ℕ) : Type 0 where
   pub least : (ls : List ℕ) (charge : ℕ) → Comes ls charge → c ≼ cost charge (length ls)
   pub first : First (λ ls. Comes ls (c .charge) × (length ls ≡ c .steps)) labels
@@ -142,7 +147,8 @@ pub record HasLabels (g : Graph) (v : ℕ) (ls : List ℕ) (charge : ℕ) : Type
   pub labelled : labelsOf path ≡ ls
   pub charged : chargeOf path ≡ charge
 
--- A table in words, two for each node: the charge of node v stands at 2v and its steps at 2v + 1. An unreached node has 0xFFFF_FFFF in both.
+-- "The search takes 2E words of 32 bits": the charge of node v stands at 2v, and its steps at 2v + 1. An unreached node has 0xFFFF_FFFF in
+-- both, and no other charge is so high.
 abbrev pub infinity : ℕ
 infinity = 0xFFFF_FFFF
 
@@ -152,5 +158,6 @@ chargeAt ws v = getD ws (2 * v) 0
 abbrev pub stepsAt : List ℕ → ℕ → ℕ
 stepsAt ws v = getD ws (2 * v + 1) 0
 
+-- The table that the words hold.
 unfoldable pub table : List ℕ → ℕ → Entry
 table ws v = cond (eqb (chargeAt ws v) infinity) unreached (reached (cost (chargeAt ws v) (stepsAt ws v)))

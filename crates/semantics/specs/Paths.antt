@@ -10,6 +10,7 @@ pub mod Route
 pub mod Along
 pub mod Greedy
 pub mod Plain
+pub mod Certificate
 pub mod Words
 pub mod Sum
 pub mod Sound

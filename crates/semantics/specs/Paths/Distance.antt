@@ -1,5 +1,5 @@
--- An attained and settled table gives exactly the least costs. The step guard does no harm: a path that it leaves out comes to a node twice, and
--- without the loop it is shorter and no dearer.
+-- An attained and settled table gives exactly the least costs. The step guard does no harm: a path that it leaves out comes to a node
+-- twice, and without the loop it is shorter and no dearer.
 -- Assumes nothing.
 use mathlib.Core.Path.{_≡_, refl}
 use mathlib.Core.Logic.{inl, inr}
@@ -8,8 +8,7 @@ use Prim.Native.Nat.{ℕ, suc, _≤_, _<_}
 use native.Mathlib.Nat.{le-refl}
 use native.Mathlib.Decide.{decLt}
 use native.Mathlib.Omega.{arith}
-use lib.ListN.{length}
-use Rattle.semantics.specs.Path.{Edge, Graph, Leaves, Closed, IsPath, chargeOf, Cost, costOf, _≼_, _≺_, HasCost, Entry, unreached, reached, LeastCosts, Attained, Within, along, Settled}
+use Rattle.semantics.specs.Path.{Edge, Graph, Leaves, Closed, IsPath, Cost, costOf, _≼_, _≺_, HasCost, Entry, unreached, reached, LeastCosts, Attained, Within, along, Settled}
 use Rattle.semantics.specs.Paths.Cost.{cost-trans, cost-weaken, cost-fewer, cost-along, cost-induction}
 use Rattle.semantics.specs.Paths.Loops.{Shorter, loop-removal}
 
@@ -32,11 +31,16 @@ module _ (g : Graph) (closed : Closed g) (d : ℕ → Entry) (attained : Attaine
   abbrev Covered : List Edge → Type 0
   Covered p = (v : ℕ) → v < g .nodes → IsPath g v p → Within (d v) (costOf p)
 
-  -- A path that begins with edge e, if all lesser paths are covered.
-  module _ (e : Edge) (q : List Edge) (lesser : (p : List Edge) → costOf p ≺ costOf (e ∷ q) → Covered p) (v : ℕ) (h : v < g .nodes) (l : Leaves g v e) where
+  -- All paths that cost less than p are covered.
+  abbrev Lesser : List Edge → Type 0
+  Lesser p = (q : List Edge) → costOf q ≺ costOf p → Covered q
+
+  -- A path from v that begins with edge e.
+  module _ (e : Edge) (q : List Edge) (lesser : Lesser (e ∷ q)) (v : ℕ) (h : v < g .nodes) (l : Leaves g v e) where
     -- What the edge offers has E steps or more: the path behind the offer has a loop, and without the loop it costs less than e ∷ q.
     covered-guarded :
-        (b : EntryCost (d (e .to)) (costOf q)) → g .nodes ≤ suc (b .cost .steps) → HasCost g (e .to) (b .cost) → Within (d v) (costOf (e ∷ q))
+        (b : EntryCost (d (e .to)) (costOf q)) → g .nodes ≤ suc (b .cost .steps) → HasCost g (e .to) (b .cost)
+        → Within (d v) (costOf (e ∷ q))
     covered-guarded b long r = at (loop-removal g closed v (e ∷ r .path) h (l, r .is-path) (omega arith))
       where
         less : (s : Shorter g v (e ∷ r .path)) → b .cost ≼ costOf q → costOf (s .path) ≺ costOf (e ∷ q)
@@ -49,6 +53,7 @@ module _ (g : Graph) (closed : Closed g) (d : ℕ → Entry) (attained : Attaine
             within-trans (d v) (costOf (s .path)) (costOf (e ∷ q)) (lesser (s .path) x v h (s .is-path))
             (cost-weaken (costOf (s .path)) (costOf (e ∷ q)) x)
 
+    -- The edge, by the entry of its end, offers no more than the path costs.
     covered-edge : EntryCost (d (e .to)) (costOf q) → Within (d v) (costOf (e ∷ q))
     covered-edge b = at (decLt (suc (b .cost .steps)) (g .nodes))
       where
@@ -58,7 +63,7 @@ module _ (g : Graph) (closed : Closed g) (d : ℕ → Entry) (attained : Attaine
             (cost-along e (b .cost) (costOf q) (b .within))
         at (no many) = covered-guarded b (omega arith) (attained (e .to) (b .cost) (closed v e h l) (b .entry))
 
-  covered : (p : List Edge) → ((q : List Edge) → costOf q ≺ costOf p → Covered q) → Covered p
+  covered : (p : List Edge) → Lesser p → Covered p
   covered [] lesser v h w = rw (settled .targets v h w) (inr (refl, le-refl 0))
   covered (e ∷ q) lesser v h w =
       covered-edge e q lesser v h (w .0)

@@ -1,4 +1,4 @@
--- Label order, and the best of some lists of labels: there is but one, and it begins with the least label with which a list of its cost begins.
+-- Label order, and the best of some lists of labels: there is one at most, and it is found among those of few labels.
 -- Assumes nothing.
 use mathlib.Core.Path.{_≡_, refl}
 use mathlib.Core.Logic.{_⊎_, inl, inr}
@@ -22,11 +22,12 @@ labels-antisymm (l ∷ ls) (m ∷ ms) (inr x) (inr y) = let e = labels-antisymm 
 pub first-unique : {Good : List ℕ → Type 0} (ls ms : List ℕ) → First Good ls → First Good ms → ls ≡ ms
 first-unique ls ms x y = labels-antisymm ls ms (x .first ms (y .good)) (y .first ls (x .good))
 
--- Every list that is so has a first label; l is the least of them, and after it ls is the first of what may follow.
+-- The first good list begins with the least label l with which a good list begins, and after it comes the first of what may follow l.
 pub first-cons :
     {Good Rest : List ℕ → Type 0} (l : ℕ) (ls : List ℕ) → (Good [] → ⊥) → ((m : ℕ) (ms : List ℕ) → Good (m ∷ ms) → l ≤ m)
-    → ((ms : List ℕ) → Good (l ∷ ms) → Rest ms) → ((ms : List ℕ) → Rest ms → Good (l ∷ ms)) → First Rest ls → First Good (l ∷ ls)
-first-cons {Good} {Rest} l ls some least rest so f = record { good = so ls (f .good); first = λ ms x. at ms x }
+    → ((ms : List ℕ) → Good (l ∷ ms) → Rest ms) → ((ms : List ℕ) → Rest ms → Good (l ∷ ms)) → First Rest ls
+    → First Good (l ∷ ls)
+first-cons {Good} {Rest} l ls some least rest good f = record { good = good ls (f .good); first = λ ms x. at ms x }
   where
     same : (m : ℕ) (ms : List ℕ) → Good (m ∷ ms) → Dec (l < m) → (l < m) ⊎ ((l ≡ m) × (ls ⊑ ms))
     same m ms x (yes h) = inl h
@@ -48,21 +49,40 @@ module _ {Comes : List ℕ → ℕ → Type 0} (c b : Cost) (ls ms : List ℕ) (
   pub best-unique : (c ≡ b) × (ls ≡ ms)
   best-unique = (best-cost, first-unique ls ms (x .first) (rw best-cost (y .first)))
 
+-- Charges that are said another way.
 pub best-map :
     {Comes Comes′ : List ℕ → ℕ → Type 0} (c : Cost) (ls : List ℕ) → ((ms : List ℕ) (b : ℕ) → Comes ms b → Comes′ ms b)
     → ((ms : List ℕ) (b : ℕ) → Comes′ ms b → Comes ms b) → Best Comes c ls → Best Comes′ c ls
 best-map c ls to from x = record {
   least = λ ms b h. x .least ms b (from ms b h);
-  first = record { good = (to ls (c .charge) (x .first .good .0), x .first .good .1); first = λ ms h. x .first .first ms (from ms (c .charge) (h .0), h .1) };
+  first = record {
+    good = (to ls (c .charge) (x .first .good .0), x .first .good .1);
+    first = λ ms h. x .first .first ms (from ms (c .charge) (h .0), h .1);
+  };
 }
 
--- The best of the lists of fewer than n labels is the best of all, if for each list one of them costs no more.
+-- A list of fewer than n labels that comes at no more than the cost c.
+pub record Shortened (Comes : List ℕ → ℕ → Type 0) (n : ℕ) (c : Cost) : Type 0 where
+  pub labels : List ℕ
+  pub charge : ℕ
+  pub comes : Comes labels charge
+  pub few : length labels < n
+  pub within : cost charge (length labels) ≼ c
+
+-- Those of fewer than n labels.
+abbrev pub Few : ℕ → (List ℕ → ℕ → Type 0) → List ℕ → ℕ → Type 0
+Few n Comes ls charge = Comes ls charge × (length ls < n)
+
+-- The best of the lists of fewer than n labels is the best of all, if each list can be shortened to one of them.
 pub best-short :
     (Comes : List ℕ → ℕ → Type 0) (n : ℕ)
-    → ((ls : List ℕ) (charge : ℕ) → Comes ls charge → (ms : List ℕ) × (b : ℕ) × Comes ms b × (length ms < n) × (cost b (length ms) ≼ cost charge (length ls)))
-    → (c : Cost) (labels : List ℕ) → Best (λ ls charge. Comes ls charge × (length ls < n)) c labels → Best Comes c labels
+    → ((ls : List ℕ) (charge : ℕ) → Comes ls charge → Shortened Comes n (cost charge (length ls)))
+    → (c : Cost) (labels : List ℕ) → Best (Few n Comes) c labels → Best Comes c labels
 best-short Comes n short c labels x = record {
-  least = λ ls charge h. let s = short ls charge h in cost-trans c (cost (s .1) (length (s .0))) (cost charge (length ls)) (x .least (s .0) (s .1) (s .2, s .3)) (s .4);
+  least = λ ls charge h.
+      let s = short ls charge h in
+      cost-trans c (cost (s .charge) (length (s .labels))) (cost charge (length ls)) (x .least (s .labels) (s .charge) (s .comes, s .few))
+      (s .within);
   first = record {
     good = (x .first .good .0 .0, x .first .good .1);
     first = λ ls h. x .first .first ls ((h .0, omega (arith, x .first .good .0 .1, x .first .good .1, h .1)), h .1);
@@ -72,7 +92,7 @@ best-short Comes n short c labels x = record {
 -- And the other way round, if it has fewer than n labels.
 pub best-among :
     (Comes : List ℕ → ℕ → Type 0) (n : ℕ) (c : Cost) (labels : List ℕ) → c .steps < n → Best Comes c labels
-    → Best (λ ls charge. Comes ls charge × (length ls < n)) c labels
+    → Best (Few n Comes) c labels
 best-among Comes n c labels few x = record {
   least = λ ls charge h. x .least ls charge (h .0);
   first = record {

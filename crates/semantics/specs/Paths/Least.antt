@@ -1,6 +1,6 @@
--- Least costs: there is but one for each node, it has at most E - 1 steps, and its charge is at most the greatest weight for each of them.
+-- Least costs: a node has one at most, it has at most E - 1 steps, and its charge is at most the greatest weight for each of them.
 -- Assumes nothing.
-use mathlib.Core.Path.{_≡_, refl, ap}
+use mathlib.Core.Path.{_≡_, refl}
 use mathlib.Core.List.{List}
 use Prim.Native.Nat.{ℕ, _*_, _-_, _≤_, _<_}
 use native.Mathlib.Nat.{le-trans, mul-le-mul-right}
@@ -38,6 +38,7 @@ module _ (g : Graph) (closed : Closed g) (v : ℕ) (h : v < g .nodes) (c : Cost)
 
 -- What a table of least costs says of a node is the only thing to say.
 module _ (g : Graph) (d : ℕ → Entry) (exact : LeastCosts g d) (v : ℕ) (h : v < g .nodes) where
+  -- No path costs less than the entry.
   pub least-within : (p : List Edge) → IsPath g v p → Within (d v) (costOf p)
   least-within p w = at (d v) refl
     where
@@ -59,6 +60,7 @@ module _ (g : Graph) (d : ℕ → Entry) (exact : LeastCosts g d) (v : ℕ) (h :
       at unreached q = q
       at (reached b) q = let r = exact .least v b h q .attained in absurd (none (r .path) (r .is-path))
 
+-- Two tables of least costs have the same entries.
 pub tables-agree : (g : Graph) (d d′ : ℕ → Entry) → LeastCosts g d → LeastCosts g d′ → (v : ℕ) → v < g .nodes → d v ≡ d′ v
 tables-agree g d d′ x y v h = at (d′ v) refl
   where

@@ -1,5 +1,5 @@
--- Loop removal: a path of E steps or more comes to some node twice, and leaving out what lies between makes it shorter and no dearer. So every
--- path can be made one of at most E - 1 steps. The charge of a path is at most the greatest weight for each step.
+-- Loop removal: a path of E steps or more comes to some node twice, and leaving out what lies between makes it shorter and no dearer. So
+-- every path can be made one of at most E - 1 steps. The charge of a path is at most the greatest weight for each step.
 -- Assumes nothing.
 use mathlib.Core.Path.{_≡_, sym, subst}
 use mathlib.Core.List.{List, [], _∷_, _++_}
@@ -35,10 +35,6 @@ nodeAfter v (e ∷ p) (suc i) = nodeAfter (e .to) p i
 -- The path without the edges from place i to place j.
 abbrev cut : List Edge → ℕ → ℕ → List Edge
 cut p i j = take i p ++ drop j p
-
-charge-append : (p q : List Edge) → chargeOf (p ++ q) ≡ chargeOf p + chargeOf q
-charge-append [] q = omega arith
-charge-append (e ∷ p) q = omega (arith, charge-append p q)
 
 charge-cut : (p : List Edge) (i j : ℕ) → i ≤ j → chargeOf (cut p i j) ≤ chargeOf p
 charge-cut p zero zero h = omega arith

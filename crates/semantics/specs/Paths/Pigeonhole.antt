@@ -21,6 +21,7 @@ record Place (f : ℕ → ℕ) (x n : ℕ) : Type 0 where
   index-lt : index < n
   value : f index ≡ x
 
+-- There is such a place, or none.
 find : (f : ℕ → ℕ) (x n : ℕ) → Place f x n ⊎ ((i : ℕ) → i < n → f i ≢ x)
 find f x zero = inr (λ i h. absurd (omega arith))
 find f x (suc n) = at (find f x n) (ℕ-discrete (f n) x)
@@ -34,7 +35,7 @@ find f x (suc n) = at (find f x n) (ℕ-discrete (f n) x)
     at (inr none) (yes e) = inl (record { index = n; index-lt = le-refl (suc n); value = e })
     at (inr none) (no ne) = inr (λ i h. last none ne i h (ℕ-discrete i n))
 
--- The numbers other than x, renumbered without a gap.
+-- The numbers other than x, renumbered to leave no gap.
 abbrev skip : (x y : ℕ) → Dec (x < y) → ℕ
 skip x y (yes h) = y - 1
 skip x y (no h) = y
@@ -52,7 +53,7 @@ skip-same x y z (yes h) (no k) ny nz p = omega arith
 skip-same x y z (no h) (yes k) ny nz p = omega arith
 skip-same x y z (no h) (no k) ny nz p = p
 
--- A repeat among the values, x left out, is a repeat.
+-- A repeat among the values so renumbered is a repeat.
 unskip : (f : ℕ → ℕ) (x n : ℕ) → ((i : ℕ) → i < n → f i ≢ x) → Repeat (skipping x f) n → Repeat f (suc n)
 unskip f x n none r = record {
   early = r .early;
@@ -64,7 +65,7 @@ unskip f x n none r = record {
       (none (r .early) (omega arith)) (none (r .late) (r .late-lt)) (r .same);
 }
 
--- Either the last value stands at an earlier place too, or it can be left out of the rest.
+-- Either the last value stands at an earlier place too, or the others are so renumbered.
 pub pigeonhole : (E : ℕ) (f : ℕ → ℕ) → ((i : ℕ) → i < suc E → f i < E) → Repeat f (suc E)
 pigeonhole zero f below = absurd (omega (arith, below 0 (omega arith)))
 pigeonhole (suc k) f below = at (f (suc k)) refl (find f (f (suc k)) (suc k)) (pigeonhole k (skipping (f (suc k)) f))
@@ -72,7 +73,8 @@ pigeonhole (suc k) f below = at (f (suc k)) refl (find f (f (suc k)) (suc k)) (p
     at :
         (x : ℕ) → f (suc k) ≡ x → Place f x (suc k) ⊎ ((i : ℕ) → i < suc k → f i ≢ x)
         → (((i : ℕ) → i < suc k → skipping x f i < k) → Repeat (skipping x f) (suc k)) → Repeat f (suc (suc k))
-    at x e (inl p) ih = record { early = p .index; late = suc k; early-lt = p .index-lt; late-lt = le-refl (suc (suc k)); same = p .value ∙ sym e }
+    at x e (inl p) ih =
+        record { early = p .index; late = suc k; early-lt = p .index-lt; late-lt = le-refl (suc (suc k)); same = p .value ∙ sym e }
     at x e (inr none) ih =
         unskip f x (suc k) none
         (ih (λ i h. skip-below x (f i) k (decLt x (f i)) (none i h) (omega (arith, below (suc k) (omega arith))) (below i (omega arith))))

@@ -1,19 +1,20 @@
--- Systems whose states are clusters of priced nodes of a graph, as a region with its corner prices is. A label, where it is allowed, takes a state
--- to the next one: all corners move at once, along their edges of that label, and a corner that is come to in several ways keeps the least price.
--- So a list of labels stands for several parallel paths, and the price of a corner is the least of them.
+-- Systems whose states are clusters of priced nodes of a graph, as a region with its corner prices is. A label, where it is allowed, takes
+-- a state to the next one: all corners move at once, along their edges of that label, and a corner that is come to in several ways keeps the
+-- least price. So a list of labels stands for several parallel paths, and the price of a corner is the least of theirs.
 -- Assumes nothing.
-use mathlib.Core.Path.{_≡_, refl, sym, _∙_, ap, subst}
+use mathlib.Core.Path.{_≡_, refl, sym, _∙_, ap}
 use mathlib.Core.List.{List, [], _∷_}
 use mathlib.Core.Option.{Option, none, some}
 use Prim.Native.Nat.{ℕ, _+_, _≤_, _<_}
 use native.Mathlib.Omega.{arith}
 use lib.ListN.{length, length-map}
-use Rattle.semantics.specs.Path.{Edge, Graph, Leaves, Target, Closed, IsPath, labelsOf, chargeOf, cost, _≼_}
+use Rattle.semantics.specs.Path.{Edge, Graph, Leaves, Target, Closed, IsPath, labelsOf, chargeOf, cost}
 use Rattle.semantics.specs.Paths.Cost.{cost-both}
 use Rattle.semantics.specs.Paths.Loops.{short-path}
+use Rattle.semantics.specs.Paths.Labels.{Shortened}
 
--- A system: its states, the next state by a label if the label is allowed, and the corners of a state. Corner j, for j below the number of corners,
--- is a node and has a price.
+-- A system: its states, the next state by a label if the label is allowed, and for each state the number of its corners, and the node and
+-- the price of each corner.
 pub record System : Type 1 where
   pub State : Type 0
   pub step : ℕ → State → Option State
@@ -45,7 +46,8 @@ pub record Source (g : Graph) (s : System) (x : s .State) (l : ℕ) (y : s .Stat
   pub leads : edge .to ≡ s .node y i
   pub priced : s .price y i ≡ s .price x corner + edge .weight
 
--- The label of edge e, which leaves corner j of x, is allowed at x, and the next state has the end of e as a corner at no more than the price by e.
+-- The label of edge e, which leaves corner j of x, is allowed at x, and the next state has the end of e as a corner, at no more than the
+-- price by way of e.
 pub record Sink (g : Graph) (s : System) (x : s .State) (j : ℕ) (e : Edge) : Type 0 where
   pub next : s .State
   pub step : s .step (e .label) x ≡ some next
@@ -82,7 +84,8 @@ pub record ArrivesWithin (g : Graph) (s : System) (x : s .State) (ls : List ℕ)
 
 module _ (g : Graph) (s : System) where
   -- A label before labels that arrive.
-  pub arrives-cons : (x y : s .State) (l : ℕ) (ls : List ℕ) (c : ℕ) → s .step l x ≡ some y → Arrives g s y ls c → Arrives g s x (l ∷ ls) c
+  pub arrives-cons :
+      (x y : s .State) (l : ℕ) (ls : List ℕ) (c : ℕ) → s .step l x ≡ some y → Arrives g s y ls c → Arrives g s x (l ∷ ls) c
   arrives-cons x y l ls c e a = record {
     last = a .last;
     follows = ap {B = Option (s .State)} (λ (o : Option (s .State)). elim o [ none ↦ none | some z ↦ follow s ls z ]) e ∙ a .follows;
@@ -93,18 +96,29 @@ module _ (g : Graph) (s : System) where
   }
 
   -- The state after the first label of labels that arrive.
-  pub arrives-step : (x : s .State) (l : ℕ) (ls : List ℕ) (c : ℕ) → Arrives g s x (l ∷ ls) c → (y : s .State) × (s .step l x ≡ some y) × Arrives g s y ls c
+  pub arrives-step :
+      (x : s .State) (l : ℕ) (ls : List ℕ) (c : ℕ) → Arrives g s x (l ∷ ls) c
+      → (y : s .State) × (s .step l x ≡ some y) × Arrives g s y ls c
   arrives-step x l ls c a = go (s .step l x) refl (a .follows)
     where
       go :
           (o : Option (s .State)) → s .step l x ≡ o → (elim o [ none ↦ none | some y ↦ follow s ls y ]) ≡ some (a .last)
           → (y : s .State) × (s .step l x ≡ some y) × Arrives g s y ls c
       go none e f = let z : _≡_ {A = ℕ} 0 1 = cc in absurd (omega arith)
-      go (some y) e f = (y, e, record { last = a .last; follows = f; corner = a .corner; among = a .among; target = a .target; priced = a .priced })
+      go (some y) e f = (
+        y,
+        e,
+        record { last = a .last; follows = f; corner = a .corner; among = a .among; target = a .target; priced = a .priced },
+      )
 
   -- Where no labels are needed.
-  pub arrives-here : (x : s .State) (c : ℕ) → Arrives g s x [] c → (j : ℕ) × (j < s .corners x) × Target g (s .node x j) × (s .price x j ≡ c)
+  pub arrives-here :
+      (x : s .State) (c : ℕ) → Arrives g s x [] c → (j : ℕ) × (j < s .corners x) × Target g (s .node x j) × (s .price x j ≡ c)
   arrives-here x c a = let e : a .last ≡ x = cc in (a .corner, rw e at (a .among), rw e at (a .target), rw e at (a .priced))
+
+  -- The path behind labels has as many edges.
+  pub behind-length : (x : s .State) (ls : List ℕ) (c : ℕ) (b : Behind g s x ls c) → length (b .path) ≡ length ls
+  behind-length x ls c b = sym (length-map (b .path) (λ e. e .label)) ∙ ap length (b .labelled)
 
 module _ (g : Graph) (s : System) (Valid : s .State → Type 0) (laws : Follows g s Valid) where
   -- Where labels arrive there is a path behind them.
@@ -140,17 +154,28 @@ module _ (g : Graph) (s : System) (Valid : s .State → Type 0) (laws : Follows 
   }
   arrives-path (e ∷ p) x j ok h w =
       let r = laws .sink x j e ok h (w .0) in
-      let a = arrives-path p (r .next) (r .corner) (laws .valid x (r .next) (e .label) ok (r .step)) (r .among) (rw (r .leads) (w .1)) in
-      record { price = a .price; arrives = arrives-cons g s x (r .next) (e .label) (labelsOf p) (a .price) (r .step) (a .arrives); within = omega arith }
+      let valid = laws .valid x (r .next) (e .label) ok (r .step) in
+      let a = arrives-path p (r .next) (r .corner) valid (r .among) (rw (r .leads) (w .1)) in
+      record {
+        price = a .price;
+        arrives = arrives-cons g s x (r .next) (e .label) (labelsOf p) (a .price) (r .step) (a .arrives);
+        within = omega arith;
+      }
 
-  -- For labels that arrive, fewer than E labels arrive at no more cost.
+  -- Where labels arrive, fewer than E labels arrive at no more cost.
   pub arrives-short :
-      Closed g → (ls : List ℕ) (x : s .State) (c : ℕ) → Valid x → Arrives g s x ls c
-      → (ms : List ℕ) × (b : ℕ) × Arrives g s x ms b × (length ms < g .nodes) × (cost b (length ms) ≼ cost c (length ls))
-  arrives-short closed ls x c ok a =
+      Closed g → (x : s .State) → Valid x → (ls : List ℕ) (c : ℕ) → Arrives g s x ls c
+      → Shortened (Arrives g s x) (g .nodes) (cost c (length ls))
+  arrives-short closed x ok ls c a =
       let b = path-behind ls x c ok a in
       let r = short-path g closed (s .node x (b .corner)) (b .path) (laws .inside x (b .corner) ok (b .among)) (b .is-path) in
       let m = arrives-path (r .path) x (b .corner) ok (b .among) (r .is-path) in
       let k = length-map (r .path) (λ e. e .label) in
-      let n : length (b .path) ≡ length ls = sym (length-map (b .path) (λ e. e .label)) ∙ ap length (b .labelled) in
-      (labelsOf (r .path), m .price, m .arrives, omega arith, cost-both (cost (m .price) (length (labelsOf (r .path)))) (cost c (length ls)) (omega arith) (omega arith))
+      let n = behind-length g s x ls c b in
+      record {
+        labels = labelsOf (r .path);
+        charge = m .price;
+        comes = m .arrives;
+        few = omega arith;
+        within = cost-both (cost (m .price) (length (labelsOf (r .path)))) (cost c (length ls)) (omega arith) (omega arith);
+      }

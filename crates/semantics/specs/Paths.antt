@@ -7,7 +7,7 @@ pub mod Least
 pub mod Labels
 pub mod System
 pub mod Route
-pub mod Along
+pub mod Prefix
 pub mod Greedy
 pub mod Plain
 pub mod Certificate

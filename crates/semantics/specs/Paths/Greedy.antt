@@ -13,7 +13,7 @@ use borrow.Author.Tests.{eq-eqb, eqb-true}
 use Rattle.semantics.specs.Path.{Graph, Cost, cost, Entry, unreached, reached}
 use Rattle.semantics.specs.Regions.Compare.{and-true-iff}
 use Rattle.semantics.specs.Paths.System.{System}
-use Rattle.semantics.specs.Paths.Route.{OnTrack, Floor, Picks, Onward, FirstFrom, Routing, floor-step, track-onward, first-more, first-none}
+use Rattle.semantics.specs.Paths.Route.{Completes, LowerBound, Picks, Onward, FirstFrom, Routing, bound-step, completes-onward, first-more, first-none}
 
 -- The first of the n numbers from i on at which f has a value, and that value.
 abbrev pub firstSome : {A : Type 0} → (ℕ → Option A) → ℕ → ℕ → Option (ℕ × A)
@@ -31,13 +31,13 @@ module _ (s : System) (d : ℕ → Entry) where
   someAdds x c zero = false
   someAdds x c (suc j) = adds (s .price x j) (d (s .node x j)) c || someAdds x c j
 
-  -- The test of OnTrack.
-  unfoldable pub onTrack : s .State → Cost → Bool
-  onTrack x c = someAdds x c (s .corners x)
+  -- The test of Completes.
+  unfoldable pub completes : s .State → Cost → Bool
+  completes x c = someAdds x c (s .corners x)
 
-  -- The state that label l leads to from x, if it is on track to c.
+  -- The state that label l leads to from x, if it is TRACK to c.
   abbrev pub tried : s .State → Cost → ℕ → Option (s .State)
-  tried x c l = elim (s .step l x) [ none ↦ none | some y ↦ elim (onTrack y c) [ true ↦ some y | false ↦ none ] ]
+  tried x c l = elim (s .step l x) [ none ↦ none | some y ↦ elim (completes y c) [ true ↦ some y | false ↦ none ] ]
 
   -- So many labels, all below L, read off from x at the charge C.
   abbrev pub greedy : ℕ → ℕ → ℕ → s .State → List ℕ
@@ -57,17 +57,17 @@ adds-complete :
 adds-complete c price left e q h = rw (q, eq-eqb (price + left) (c .charge) h) (eq-eqb (c .steps) (c .steps) refl)
 
 module _ (s : System) (d : ℕ → Entry) (x : s .State) (c : Cost) where
-  some-sound : (n : ℕ) → n ≤ s .corners x → someAdds s d x c n ≡ true → OnTrack s d x c
+  some-sound : (n : ℕ) → n ≤ s .corners x → someAdds s d x c n ≡ true → Completes s d x c
   some-sound zero h t = let z : _≡_ {A = ℕ} 0 1 = cc in absurd (omega arith)
   some-sound (suc j) h t = go (adds (s .price x j) (d (s .node x j)) c) refl t (some-sound j (omega arith))
     where
-      go : (b : Bool) → adds (s .price x j) (d (s .node x j)) c ≡ b → (b || someAdds s d x c j) ≡ true → (someAdds s d x c j ≡ true → OnTrack s d x c) → OnTrack s d x c
+      go : (b : Bool) → adds (s .price x j) (d (s .node x j)) c ≡ b → (b || someAdds s d x c j) ≡ true → (someAdds s d x c j ≡ true → Completes s d x c) → Completes s d x c
       go true e u ih =
           let a = adds-sound c (s .price x j) (d (s .node x j)) e in
           record { corner = j; among = h; left = a .0; entry = a .1; sum = a .2 }
       go false e u ih = ih u
 
-  some-complete : (t : OnTrack s d x c) (n : ℕ) → t .corner < n → someAdds s d x c n ≡ true
+  some-complete : (t : Completes s d x c) (n : ℕ) → t .corner < n → someAdds s d x c n ≡ true
   some-complete t zero h = absurd (omega arith)
   some-complete t (suc j) h = at (ℕ-discrete (t .corner) j) (some-complete t j)
     where
@@ -78,13 +78,13 @@ module _ (s : System) (d : ℕ → Entry) (x : s .State) (c : Cost) where
       at (yes e) ih = rw (here e)
       at (no ne) ih = rw (ih (omega arith)) (or-true (adds (s .price x j) (d (s .node x j)) c))
 
-  pub onTrack-sound : onTrack s d x c ≡ true → OnTrack s d x c
-  unfolding onTrack
-  onTrack-sound t = some-sound (s .corners x) (omega arith) t
+  pub completes-sound : completes s d x c ≡ true → Completes s d x c
+  unfolding completes
+  completes-sound t = some-sound (s .corners x) (omega arith) t
 
-  pub onTrack-complete : OnTrack s d x c → onTrack s d x c ≡ true
-  unfolding onTrack
-  onTrack-complete t = some-complete t (s .corners x) (t .among)
+  pub completes-complete : Completes s d x c → completes s d x c ≡ true
+  unfolding completes
+  completes-complete t = some-complete t (s .corners x) (t .among)
 
 -- A value of f was found at the first place that has one.
 record Found {A : Type 0} (f : ℕ → Option A) (o : Option (ℕ × A)) : Type 0 where
@@ -118,31 +118,31 @@ firstSome-found {A} f (suc n) i k a passed low high e = go (f i) refl (firstSome
     go (some b) q ih = record { place = i; value = b; is = refl; at-place = q; earlier = passed }
 
 module _ (s : System) (d : ℕ → Entry) (x : s .State) (c : Cost) (l : ℕ) where
-  tried-sound : (y : s .State) → tried s d x c l ≡ some y → (s .step l x ≡ some y) × OnTrack s d y c
+  tried-sound : (y : s .State) → tried s d x c l ≡ some y → (s .step l x ≡ some y) × Completes s d y c
   tried-sound y t = go (s .step l x) refl t
     where
-      test : (z : s .State) (b : Bool) → onTrack s d z c ≡ b → (elim b [ true ↦ some z | false ↦ none ]) ≡ some y → (z ≡ y) × OnTrack s d z c
-      test z true q e = (cc, onTrack-sound s d z c q)
+      test : (z : s .State) (b : Bool) → completes s d z c ≡ b → (elim b [ true ↦ some z | false ↦ none ]) ≡ some y → (z ≡ y) × Completes s d z c
+      test z true q e = (cc, completes-sound s d z c q)
       test z false q e = let w : _≡_ {A = ℕ} 0 1 = cc in absurd (omega arith)
 
       go :
           (o : Option (s .State)) → s .step l x ≡ o
-          → (elim o [ none ↦ none | some z ↦ elim (onTrack s d z c) [ true ↦ some z | false ↦ none ] ]) ≡ some y
-          → (s .step l x ≡ some y) × OnTrack s d y c
+          → (elim o [ none ↦ none | some z ↦ elim (completes s d z c) [ true ↦ some z | false ↦ none ] ]) ≡ some y
+          → (s .step l x ≡ some y) × Completes s d y c
       go none f e = let w : _≡_ {A = ℕ} 0 1 = cc in absurd (omega arith)
-      go (some z) f e = let p = test z (onTrack s d z c) refl e in (rw (p .0) at f, rw (p .0) at (p .1))
+      go (some z) f e = let p = test z (completes s d z c) refl e in (rw (p .0) at f, rw (p .0) at (p .1))
 
-  tried-complete : (y : s .State) → s .step l x ≡ some y → OnTrack s d y c → tried s d x c l ≡ some y
+  tried-complete : (y : s .State) → s .step l x ≡ some y → Completes s d y c → tried s d x c l ≡ some y
   tried-complete y e t =
-      ap {B = Option (s .State)} (λ (o : Option (s .State)). elim o [ none ↦ none | some z ↦ elim (onTrack s d z c) [ true ↦ some z | false ↦ none ] ]) e
-      ∙ ap {B = Option (s .State)} (λ (b : Bool). elim b [ true ↦ some y | false ↦ none ]) (onTrack-complete s d y c t)
+      ap {B = Option (s .State)} (λ (o : Option (s .State)). elim o [ none ↦ none | some z ↦ elim (completes s d z c) [ true ↦ some z | false ↦ none ] ]) e
+      ∙ ap {B = Option (s .State)} (λ (b : Bool). elim b [ true ↦ some y | false ↦ none ]) (completes-complete s d y c t)
 
 module _ {g : Graph} {s : System} {Valid : s .State → Type 0} {d : ℕ → Entry} (r : Routing g s Valid d) (L : ℕ) (labels : (x y : s .State) (l : ℕ) → Valid x → s .step l x ≡ some y → l < L) where
   -- What is found among the labels below L is by the greedy rule.
   greedy-picks : (x : s .State) (c : Cost) (o : Option (ℕ × s .State)) (f : Found (tried s d x c) o) → Picks s d x c (f .place) (f .value)
   greedy-picks x c o f =
       let t = tried-sound s d x c (f .place) (f .value) (f .at-place) in
-      record { step = t .0; track = t .1; least = λ m z h e u. both m z (f .earlier m h) (tried-complete s d x c m z e u) }
+      record { step = t .0; completes = t .1; least = λ m z h e u. both m z (f .earlier m h) (tried-complete s d x c m z e u) }
     where
       both : (m : ℕ) (z : s .State) → tried s d x c m ≡ none → tried s d x c m ≡ some z → ⊥
       both m z p q = let w : _≡_ {A = ℕ} 0 1 = cc in omega arith
@@ -151,22 +151,22 @@ module _ {g : Graph} {s : System} {Valid : s .State → Type 0} {d : ℕ → Ent
   greedy-found x c ok o =
       firstSome-found (tried s d x c) L 0 (o .label) (o .next) (λ j h. absurd (omega arith)) (omega arith)
       (omega (arith, labels x (o .next) (o .label) ok (o .step)))
-      (tried-complete s d x c (o .label) (o .next) (o .step) (o .track))
+      (tried-complete s d x c (o .label) (o .next) (o .step) (o .completes))
 
   pub greedy-first :
-      (C n : ℕ) (x : s .State) → Valid x → Floor s d x (cost C n) → OnTrack s d x (cost C n)
+      (C n : ℕ) (x : s .State) → Valid x → LowerBound s d x (cost C n) → Completes s d x (cost C n)
       → FirstFrom g s x (cost C n) (greedy s d L C n x)
-  greedy-first C zero x ok floor t = first-none r x C ok floor t
-  greedy-first C (suc n) x ok floor t =
-      at (firstSome (tried s d x (cost C n)) L 0) (greedy-found x (cost C n) ok (track-onward r x C n ok floor t)) (greedy-first C n)
+  greedy-first C zero x ok bound t = first-none r x C ok bound t
+  greedy-first C (suc n) x ok bound t =
+      at (firstSome (tried s d x (cost C n)) L 0) (greedy-found x (cost C n) ok (completes-onward r x C n ok bound t)) (greedy-first C n)
     where
       at :
           (o : Option (ℕ × s .State)) → Found (tried s d x (cost C n)) o
-          → ((y : s .State) → Valid y → Floor s d y (cost C n) → OnTrack s d y (cost C n) → FirstFrom g s y (cost C n) (greedy s d L C n y))
+          → ((y : s .State) → Valid y → LowerBound s d y (cost C n) → Completes s d y (cost C n) → FirstFrom g s y (cost C n) (greedy s d L C n y))
           → FirstFrom g s x (cost C (suc n)) (elim o [ none ↦ [] | some p ↦ p .0 ∷ greedy s d L C n (p .1) ])
       at o f ih =
           let p = greedy-picks x (cost C n) o f in
           let y = f .value in
           subst (λ (k : Option (ℕ × s .State)). FirstFrom g s x (cost C (suc n)) (elim k [ none ↦ [] | some p ↦ p .0 ∷ greedy s d L C n (p .1) ])) (sym (f .is))
-          (first-more r x C n ok floor (f .place) y (greedy s d L C n y) p
-          (ih y (r .laws .valid x y (f .place) ok (p .step)) (floor-step r x C n ok floor y (f .place) (p .step)) (p .track)))
+          (first-more r x C n ok bound (f .place) y (greedy s d L C n y) p
+          (ih y (r .laws .valid x y (f .place) ok (p .step)) (bound-step r x C n ok bound y (f .place) (p .step)) (p .completes)))

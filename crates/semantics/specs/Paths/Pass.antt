@@ -11,7 +11,7 @@ use native.Mathlib.Omega.{arith}
 use lib.ListN.{length, drop}
 use Rattle.semantics.specs.Path.{Edge, Graph, Leaves, Cost, cost, _≺_, HasCost, along, infinity, chargeAt, stepsAt, table}
 use Rattle.semantics.specs.Paths.Words.{table-reached, stored, stored-length, stored-rest}
-use Rattle.semantics.specs.Paths.Sound.{Sound, Lower, costAt, total, stored-lower, stored-total, sound-stored}
+use Rattle.semantics.specs.Paths.Sound.{Sound, Lower, costAt, measure, stored-lower, stored-measure, sound-stored}
 
 -- The pass made ws′ of the words ws. They are still sound, the words past the table are untouched, and no entry is higher. The flag says whether the
 -- pass stored anything: if not, it found ws to meet `Done`; if so, the measure of the search fell.
@@ -21,7 +21,7 @@ pub record Pass (g : Graph) (Done : List ℕ → Type 0) (ws ws′ : List ℕ) (
   pub kept : length ws′ ≡ length ws
   pub lower : (v : ℕ) → Lower (table ws′ v) (table ws v)
   pub idle : changed ≡ false → (ws′ ≡ ws) × Done ws
-  pub falls : changed ≡ true → total (g .nodes) ws′ < total (g .nodes) ws
+  pub falls : changed ≡ true → measure (g .nodes) ws′ < measure (g .nodes) ws
 
 -- The flag of two passes, where the second stored something, and where it did not.
 pub flag-set : (a b : Bool) → b ≡ true → (a || b) ≡ true
@@ -76,7 +76,7 @@ pass-stored {g} {Done} {ws} v e c charged counted small ok h to l end known few 
   kept = stored-length ws v c;
   lower = stored-lower g ws v c ok h known less;
   idle = λ q. let z : _≡_ {A = ℕ} 0 1 = cc in absurd (omega arith);
-  falls = λ _. stored-total g ws v c ok h known less (omega arith);
+  falls = λ _. stored-measure g ws v c ok h known less (omega arith);
 }
   where
     new : HasCost g v c
@@ -105,7 +105,7 @@ module _ {g : Graph} {ws ws′ ws″ : List ℕ} where
           let y = q .idle e in
           (y .0 ∙ x .0, (x .1, rw (x .0) at (y .1)))
 
-      falls : (a b : Bool) → Pass g Done ws ws′ a → Pass g Done′ ws′ ws″ b → (a || b) ≡ true → total (g .nodes) ws″ < total (g .nodes) ws
+      falls : (a b : Bool) → Pass g Done ws ws′ a → Pass g Done′ ws′ ws″ b → (a || b) ≡ true → measure (g .nodes) ws″ < measure (g .nodes) ws
       falls true true p q e = omega (arith, p .falls refl, q .falls refl)
       falls true false p q e = rw (q .idle refl .0) (p .falls refl)
       falls false b p q e = rw (← p .idle refl .0) (q .falls e)

@@ -13,9 +13,9 @@ use lib.Dec.{eqb}
 use borrow.Author.Tests.{eqb-true, eqb-false}
 use Rattle.semantics.specs.Path.{Edge, Graph, Leaves, Closed, IsPath, labelsOf, chargeOf, Cost, Entry, reached, LeastCosts, Best, HasLabels}
 use Rattle.semantics.specs.Paths.Labels.{best-map}
-use Rattle.semantics.specs.Paths.System.{System, Arrives, Follows, Source, arrives-cons, path-behind}
+use Rattle.semantics.specs.Paths.System.{System, Arrives, Follows, Predecessor, arrives-cons, corner-path}
 use Rattle.semantics.specs.Paths.Route.{FirstFrom, Routing}
-use Rattle.semantics.specs.Paths.Along.{StartsAt, start-track, start-floor, first-best}
+use Rattle.semantics.specs.Paths.Prefix.{StartsAt, start-completes, start-bound, first-best}
 use Rattle.semantics.specs.Paths.Greedy.{greedy, greedy-first}
 
 -- No node has two edges of one label.
@@ -49,8 +49,8 @@ plain g = record {
   price = λ x j. x .price;
 }
 
-abbrev pub freeNode : ℕ → PricedNode
-freeNode v = record { node = v; price = 0 }
+abbrev pub startNode : ℕ → PricedNode
+startNode v = record { node = v; price = 0 }
 
 -- An edge with the label l in the list.
 record Labelled (l : ℕ) (es : List Edge) (e : Edge) : Type 0 where
@@ -101,8 +101,8 @@ module _ (g : Graph) (closed : Closed g) (det : Deterministic g) where
   plain-follows = record {
     valid = λ x y l h q. let e = plain-edge g x y l q in rw (← e .2) (closed (x .node) (e .0) h (e .1 .listed));
     inside = λ x j h k. h;
-    source = λ x y l i h q k. source x y l i (plain-edge g x y l q);
-    sink = λ x j e h k l. record {
+    predecessor = λ x y l i h q k. predecessor x y l i (plain-edge g x y l q);
+    successor = λ x j e h k l. record {
       next = moved x e;
       step = plain-step x e h l;
       corner = 0;
@@ -112,8 +112,8 @@ module _ (g : Graph) (closed : Closed g) (det : Deterministic g) where
     };
   }
     where
-      source : (x y : PricedNode) (l i : ℕ) → (e : Edge) × Labelled l (g .edges (x .node)) e × (moved x e ≡ y) → Source g (plain g) x l y i
-      source x y l i (e, f, q) = record {
+      predecessor : (x y : PricedNode) (l i : ℕ) → (e : Edge) × Labelled l (g .edges (x .node)) e × (moved x e ≡ y) → Predecessor g (plain g) x l y i
+      predecessor x y l i (e, f, q) = record {
         corner = 0;
         among = le-refl 1;
         edge = e;
@@ -132,14 +132,14 @@ module _ (g : Graph) (closed : Closed g) (det : Deterministic g) where
 
   module _ (v : ℕ) (h : v < g .nodes) where
     -- Labels arrive from node v exactly if a path from v has them.
-    pub arrives-labels : (ls : List ℕ) (c : ℕ) → Arrives g (plain g) (freeNode v) ls c → HasLabels g v ls c
+    pub arrives-labels : (ls : List ℕ) (c : ℕ) → Arrives g (plain g) (startNode v) ls c → HasLabels g v ls c
     arrives-labels ls c a =
-        let b = path-behind g (plain g) (λ x. x .node < g .nodes) plain-follows ls (freeNode v) c h a in
+        let b = corner-path g (plain g) (λ x. x .node < g .nodes) plain-follows ls (startNode v) c h a in
         record { path = b .path; is-path = b .is-path; labelled = b .labelled; charged = omega arith }
 
-    pub labels-arrive : (ls : List ℕ) (c : ℕ) → HasLabels g v ls c → Arrives g (plain g) (freeNode v) ls c
+    pub labels-arrive : (ls : List ℕ) (c : ℕ) → HasLabels g v ls c → Arrives g (plain g) (startNode v) ls c
     labels-arrive ls c p =
-        let a = path-arrives (p .path) (freeNode v) h (p .is-path) in
+        let a = path-arrives (p .path) (startNode v) h (p .is-path) in
         let e : 0 + chargeOf (p .path) ≡ c = omega arith in
         rw (e, p .labelled) at a
 
@@ -147,23 +147,23 @@ module _ (g : Graph) (closed : Closed g) (det : Deterministic g) where
       routing : Routing g (plain g) (λ x. x .node < g .nodes) d
       routing = record { laws = plain-follows; exact = exact }
 
-      start : StartsAt (plain g) (freeNode v) v
+      start : StartsAt (plain g) (startNode v) v
       start = record { single = refl; node = refl; free = refl }
 
       -- The first labels that arrive at the entry of v are the best route.
-      pub plain-best : (ls : List ℕ) → FirstFrom g (plain g) (freeNode v) c ls → Best (HasLabels g v) c ls
+      pub plain-best : (ls : List ℕ) → FirstFrom g (plain g) (startNode v) c ls → Best (HasLabels g v) c ls
       plain-best ls f =
           best-map c ls arrives-labels labels-arrive
-          (first-best routing (freeNode v) c ls h (start-floor routing (freeNode v) v start c q) f)
+          (first-best routing (startNode v) c ls h (start-bound routing (startNode v) v start c q) f)
 
       -- The greedy reading gives it, if all labels are below L.
       pub plain-greedy :
           (L : ℕ) → ((u : ℕ) (e : Edge) → u < g .nodes → Leaves g u e → e .label < L)
-          → Best (HasLabels g v) c (greedy (plain g) d L (c .charge) (c .steps) (freeNode v))
+          → Best (HasLabels g v) c (greedy (plain g) d L (c .charge) (c .steps) (startNode v))
       plain-greedy L below =
-          plain-best (greedy (plain g) d L (c .charge) (c .steps) (freeNode v))
-          (greedy-first routing L labels (c .charge) (c .steps) (freeNode v) h (start-floor routing (freeNode v) v start c q)
-          (start-track routing (freeNode v) v start c q))
+          plain-best (greedy (plain g) d L (c .charge) (c .steps) (startNode v))
+          (greedy-first routing L labels (c .charge) (c .steps) (startNode v) h (start-bound routing (startNode v) v start c q)
+          (start-completes routing (startNode v) v start c q))
         where
           labels : (x y : PricedNode) (l : ℕ) → x .node < g .nodes → plain g .step l x ≡ some y → l < L
           labels x y l k s = let e = plain-edge g x y l s in rw (← e .1 .label) (below (x .node) (e .0) k (e .1 .listed))

@@ -31,11 +31,11 @@ abbrev pub costAt : List ℕ → ℕ → Cost
 costAt ws v = cost (chargeAt ws v) (stepsAt ws v)
 
 -- What the node adds to the measure of the search, and the measure.
-abbrev pub weighed : List ℕ → ℕ → ℕ
-weighed ws v = 4294967296 * chargeAt ws v + stepsAt ws v
+abbrev pub nodeMeasure : List ℕ → ℕ → ℕ
+nodeMeasure ws v = 4294967296 * chargeAt ws v + stepsAt ws v
 
-unfoldable pub total : ℕ → List ℕ → ℕ
-total E ws = sum (weighed ws) E
+unfoldable pub measure : ℕ → List ℕ → ℕ
+measure E ws = sum (nodeMeasure ws) E
 
 -- Every bound of the entry y bounds the entry x.
 abbrev pub Lower : Entry → Entry → Type 0
@@ -96,13 +96,13 @@ module _ (g : Graph) (ws : List ℕ) (v : ℕ) (c : Cost) (ok : Sound g ws) (h :
       at (yes e) m = rw (e, table-stored ws v c fits known) (here (table ws v) refl (rw e at m))
       at (no ne) m = rw (table-other ws v c u ne) m
 
-  pub stored-total : c .steps < 4294967296 → total (g .nodes) (stored ws v c) < total (g .nodes) ws
-  unfolding total
-  stored-total small =
-      sum-less (weighed (stored ws v c)) (weighed ws) (g .nodes) v h (at less)
+  pub stored-measure : c .steps < 4294967296 → measure (g .nodes) (stored ws v c) < measure (g .nodes) ws
+  unfolding measure
+  stored-measure small =
+      sum-less (nodeMeasure (stored ws v c)) (nodeMeasure ws) (g .nodes) v h (at less)
       (λ u k n. omega (arith, other-charge ws v c u n, other-steps ws v c u n))
     where
-      at : c ≺ costAt ws v → weighed (stored ws v c) v < weighed ws v
+      at : c ≺ costAt ws v → nodeMeasure (stored ws v c) v < nodeMeasure ws v
       at (inl x) = omega (arith, stored-charge ws v c fits, stored-steps ws v c fits)
       at (inr x) = omega (arith, stored-charge ws v c fits, stored-steps ws v c fits)
 

@@ -37,7 +37,7 @@ pub record Arrives (g : Graph) (s : System) (x : s .State) (ls : List ℕ) (pric
   pub priced : s .price last corner ≡ price
 
 -- Corner i of y has its price by an edge of the label l from a corner of x.
-pub record Source (g : Graph) (s : System) (x : s .State) (l : ℕ) (y : s .State) (i : ℕ) : Type 0 where
+pub record Predecessor (g : Graph) (s : System) (x : s .State) (l : ℕ) (y : s .State) (i : ℕ) : Type 0 where
   pub corner : ℕ
   pub among : corner < s .corners x
   pub edge : Edge
@@ -48,7 +48,7 @@ pub record Source (g : Graph) (s : System) (x : s .State) (l : ℕ) (y : s .Stat
 
 -- The label of edge e, which leaves corner j of x, is allowed at x, and the next state has the end of e as a corner, at no more than the
 -- price by way of e.
-pub record Sink (g : Graph) (s : System) (x : s .State) (j : ℕ) (e : Edge) : Type 0 where
+pub record Successor (g : Graph) (s : System) (x : s .State) (j : ℕ) (e : Edge) : Type 0 where
   pub next : s .State
   pub step : s .step (e .label) x ≡ some next
   pub corner : ℕ
@@ -63,12 +63,12 @@ pub record Follows (g : Graph) (s : System) (Valid : s .State → Type 0) : Type
   -- The corners of a valid state are nodes of the graph.
   pub inside : (x : s .State) (j : ℕ) → Valid x → j < s .corners x → s .node x j < g .nodes
   -- Each price after a step is the price of some corner before it and the weight of an edge with the step's label.
-  pub source : (x y : s .State) (l i : ℕ) → Valid x → s .step l x ≡ some y → i < s .corners y → Source g s x l y i
+  pub predecessor : (x y : s .State) (l i : ℕ) → Valid x → s .step l x ≡ some y → i < s .corners y → Predecessor g s x l y i
   -- Each edge of a corner can be taken by its label, and no price after the step is more than by such an edge.
-  pub sink : (x : s .State) (j : ℕ) (e : Edge) → Valid x → j < s .corners x → Leaves g (s .node x j) e → Sink g s x j e
+  pub successor : (x : s .State) (j : ℕ) (e : Edge) → Valid x → j < s .corners x → Leaves g (s .node x j) e → Successor g s x j e
 
 -- A path with the labels ls from a corner of x into the targets, and the price to which it leads.
-pub record Behind (g : Graph) (s : System) (x : s .State) (ls : List ℕ) (price : ℕ) : Type 0 where
+pub record CornerPath (g : Graph) (s : System) (x : s .State) (ls : List ℕ) (price : ℕ) : Type 0 where
   pub corner : ℕ
   pub among : corner < s .corners x
   pub path : List Edge
@@ -117,23 +117,23 @@ module _ (g : Graph) (s : System) where
   arrives-here x c a = let e : a .last ≡ x = cc in (a .corner, rw e at (a .among), rw e at (a .target), rw e at (a .priced))
 
   -- The path behind labels has as many edges.
-  pub behind-length : (x : s .State) (ls : List ℕ) (c : ℕ) (b : Behind g s x ls c) → length (b .path) ≡ length ls
-  behind-length x ls c b = sym (length-map (b .path) (λ e. e .label)) ∙ ap length (b .labelled)
+  pub corner-path-length : (x : s .State) (ls : List ℕ) (c : ℕ) (b : CornerPath g s x ls c) → length (b .path) ≡ length ls
+  corner-path-length x ls c b = sym (length-map (b .path) (λ e. e .label)) ∙ ap length (b .labelled)
 
 module _ (g : Graph) (s : System) (Valid : s .State → Type 0) (laws : Follows g s Valid) where
   -- Where labels arrive there is a path behind them.
-  pub path-behind : (ls : List ℕ) (x : s .State) (c : ℕ) → Valid x → Arrives g s x ls c → Behind g s x ls c
-  path-behind [] x c ok a =
+  pub corner-path : (ls : List ℕ) (x : s .State) (c : ℕ) → Valid x → Arrives g s x ls c → CornerPath g s x ls c
+  corner-path [] x c ok a =
       let h = arrives-here g s x c a in
       record { corner = h .0; among = h .1; path = []; is-path = h .2; labelled = refl; priced = omega arith }
-  path-behind (l ∷ ls) x c ok a =
+  corner-path (l ∷ ls) x c ok a =
       let n = arrives-step g s x l ls c a in
-      before (n .0) (n .1) (path-behind ls (n .0) c (laws .valid x (n .0) l ok (n .1)) (n .2))
+      before (n .0) (n .1) (corner-path ls (n .0) c (laws .valid x (n .0) l ok (n .1)) (n .2))
     where
       -- The edge behind the first label, before the path behind the others.
-      before : (y : s .State) → s .step l x ≡ some y → Behind g s y ls c → Behind g s x (l ∷ ls) c
+      before : (y : s .State) → s .step l x ≡ some y → CornerPath g s y ls c → CornerPath g s x (l ∷ ls) c
       before y e b =
-          let r = laws .source x y l (b .corner) ok e (b .among) in
+          let r = laws .predecessor x y l (b .corner) ok e (b .among) in
           record {
             corner = r .corner;
             among = r .among;
@@ -153,7 +153,7 @@ module _ (g : Graph) (s : System) (Valid : s .State → Type 0) (laws : Follows 
     within = omega arith;
   }
   arrives-path (e ∷ p) x j ok h w =
-      let r = laws .sink x j e ok h (w .0) in
+      let r = laws .successor x j e ok h (w .0) in
       let valid = laws .valid x (r .next) (e .label) ok (r .step) in
       let a = arrives-path p (r .next) (r .corner) valid (r .among) (rw (r .leads) (w .1)) in
       record {
@@ -167,11 +167,11 @@ module _ (g : Graph) (s : System) (Valid : s .State → Type 0) (laws : Follows 
       Closed g → (x : s .State) → Valid x → (ls : List ℕ) (c : ℕ) → Arrives g s x ls c
       → Shortened (Arrives g s x) (g .nodes) (cost c (length ls))
   arrives-short closed x ok ls c a =
-      let b = path-behind ls x c ok a in
+      let b = corner-path ls x c ok a in
       let r = short-path g closed (s .node x (b .corner)) (b .path) (laws .inside x (b .corner) ok (b .among)) (b .is-path) in
       let m = arrives-path (r .path) x (b .corner) ok (b .among) (r .is-path) in
       let k = length-map (r .path) (λ e. e .label) in
-      let n = behind-length g s x ls c b in
+      let n = corner-path-length g s x ls c b in
       record {
         labels = labelsOf (r .path);
         charge = m .price;

@@ -8,6 +8,7 @@ pub mod Labels
 pub mod System
 pub mod Route
 pub mod Prefix
+pub mod FirstSome
 pub mod Greedy
 pub mod Plain
 pub mod Certificate

@@ -1,17 +1,17 @@
--- A test of a table of distances, to be computed. It passes a table only if no edge improves an entry, the targets have cost 0, and every other
--- reached entry is met exactly by one of its edges. Such a table gives exactly the least costs.
+-- A test of a table of distances that can be computed. It passes a table only if no edge improves an entry, the targets have cost 0, and
+-- every other reached entry is met exactly by an edge. Such a table gives exactly the least costs.
 -- Assumes nothing.
-use mathlib.Core.Path.{_≡_, refl, sym, _∙_, ap}
-use mathlib.Core.Bool.{Bool, true, false, cond, _&&_, _||_}
+use mathlib.Core.Path.{_≡_, refl, _∙_, ap}
+use mathlib.Core.Bool.{Bool, true, false, _&&_, _||_}
 use mathlib.Core.Logic.{_⊎_, inl, inr}
 use mathlib.Core.List.{List, [], _∷_, List·Memᴰ, List·Memᴰ·head, List·Memᴰ·tail}
-use Prim.Native.Nat.{ℕ, zero, suc, _≤_, _<_}
+use Prim.Native.Nat.{ℕ, zero, suc, _<_}
 use native.Mathlib.Nat.{le-refl}
 use native.Mathlib.Omega.{arith}
 use lib.Dec.{ltb, leb, eqb}
 use borrow.Author.Tests.{ltb-true, leb-true, eqb-true}
 use Rattle.semantics.specs.Corner.{countFrom}
-use Rattle.semantics.specs.Path.{Edge, Graph, Leaves, Target, Closed, Cost, cost, _≼_, HasCost, Entry, unreached, reached, LeastCosts, Attained, Within, along, Settled}
+use Rattle.semantics.specs.Path.{Edge, Graph, Leaves, Target, Closed, Cost, cost, _≼_, HasCost, Entry, unreached, reached, LeastCosts, Within, along, Settled}
 use Rattle.semantics.specs.Regions.Compare.{and-true-iff}
 use Rattle.semantics.specs.Corners.Lists.{mem-below}
 use Rattle.semantics.specs.Corners.Every.{every, every-mem}
@@ -34,6 +34,7 @@ abbrev pub tight : Cost → Edge → Entry → Bool
 tight c e unreached = false
 tight c e (reached b) = sameCost (along e b) c
 
+-- Whether one of the edges does.
 abbrev pub someTight : (ℕ → Entry) → Cost → List Edge → Bool
 someTight d c [] = false
 someTight d c (e ∷ es) = tight c e (d (e .to)) || someTight d c es
@@ -45,11 +46,14 @@ entryTest true d es (reached c) = sameCost c (cost 0 0)
 entryTest false d es unreached = true
 entryTest false d es (reached c) = someTight d c es
 
-abbrev pub nodeTest : Graph → (ℕ → Entry) → ℕ → Bool
-nodeTest g d v =
-    entryTest (g .isTarget v) d (g .edges v) (d v)
-    && every (λ e. ltb (e .to) (g .nodes) && noBetter (d v) e (d (e .to))) (g .edges v)
+-- Whether edge e leads to a node and does not improve the entry x.
+abbrev pub edgeTest : Graph → (ℕ → Entry) → Entry → Edge → Bool
+edgeTest g d x e = ltb (e .to) (g .nodes) && noBetter x e (d (e .to))
 
+abbrev pub nodeTest : Graph → (ℕ → Entry) → ℕ → Bool
+nodeTest g d v = entryTest (g .isTarget v) d (g .edges v) (d v) && every (edgeTest g d (d v)) (g .edges v)
+
+-- The test, for every node.
 abbrev pub certified : Graph → (ℕ → Entry) → Bool
 certified g d = every (nodeTest g d) (countFrom 0 (g .nodes))
 
@@ -99,30 +103,38 @@ someTight-sound d c (e ∷ es) t = at (or-cases (tight c e (d (e .to))) (someTig
 
     at : (tight c e (d (e .to)) ≡ true) ⊎ (someTight d c es ≡ true) → (someTight d c es ≡ true → Tight d es c) → Tight d (e ∷ es) c
     at (inl u) ih = here (d (e .to)) refl u
-    at (inr u) ih = let r = ih u in record { edge = r .edge; listed = List·Memᴰ·tail (r .listed); ahead = r .ahead; entry = r .entry; meets = r .meets }
+    at (inr u) ih =
+        let r = ih u in
+        record { edge = r .edge; listed = List·Memᴰ·tail (r .listed); ahead = r .ahead; entry = r .entry; meets = r .meets }
 
 target-entry : (d : ℕ → Entry) (es : List Edge) (x : Entry) → entryTest true d es x ≡ true → x ≡ reached (cost 0 0)
 target-entry d es unreached t = contradiction t
 target-entry d es (reached c) t = ap {B = Entry} reached (sameCost-sound c (cost 0 0) t)
 
 module _ (g : Graph) (d : ℕ → Entry) (test : certified g d ≡ true) where
-  node-parts : (v : ℕ) → v < g .nodes → (entryTest (g .isTarget v) d (g .edges v) (d v) ≡ true) × (every (λ e. ltb (e .to) (g .nodes) && noBetter (d v) e (d (e .to))) (g .edges v) ≡ true)
+  node-parts :
+      (v : ℕ) → v < g .nodes
+      → (entryTest (g .isTarget v) d (g .edges v) (d v) ≡ true) × (every (edgeTest g d (d v)) (g .edges v) ≡ true)
   node-parts v h =
-      and-true-iff (entryTest (g .isTarget v) d (g .edges v) (d v)) (every (λ e. ltb (e .to) (g .nodes) && noBetter (d v) e (d (e .to))) (g .edges v)) .0
+      and-true-iff (entryTest (g .isTarget v) d (g .edges v) (d v)) (every (edgeTest g d (d v)) (g .edges v)) .0
       (every-mem (nodeTest g d) (countFrom 0 (g .nodes)) test v (mem-below (g .nodes) v h))
 
-  edge-parts : (v : ℕ) (e : Edge) → v < g .nodes → Leaves g v e → (ltb (e .to) (g .nodes) ≡ true) × (noBetter (d v) e (d (e .to)) ≡ true)
+  edge-parts :
+      (v : ℕ) (e : Edge) → v < g .nodes → Leaves g v e → (ltb (e .to) (g .nodes) ≡ true) × (noBetter (d v) e (d (e .to)) ≡ true)
   edge-parts v e h l =
       and-true-iff (ltb (e .to) (g .nodes)) (noBetter (d v) e (d (e .to))) .0
-      (every-mem (λ e. ltb (e .to) (g .nodes) && noBetter (d v) e (d (e .to))) (g .edges v) (node-parts v h .1) e l)
+      (every-mem (edgeTest g d (d v)) (g .edges v) (node-parts v h .1) e l)
 
   pub certified-closed : Closed g
   certified-closed v e h l = ltb-true (e .to) (g .nodes) (edge-parts v e h l .0)
 
+  -- The node is a target, or an edge meets its entry.
   entry-cases : (v : ℕ) (c : Cost) → v < g .nodes → d v ≡ reached c → (Target g v × (c ≡ cost 0 0)) ⊎ Tight d (g .edges v) c
   entry-cases v c h q = at (g .isTarget v) refl (d v) refl (node-parts v h .0)
     where
-      at : (b : Bool) → g .isTarget v ≡ b → (x : Entry) → d v ≡ x → entryTest b d (g .edges v) x ≡ true → (Target g v × (c ≡ cost 0 0)) ⊎ Tight d (g .edges v) c
+      at :
+          (b : Bool) → g .isTarget v ≡ b → (x : Entry) → d v ≡ x → entryTest b d (g .edges v) x ≡ true
+          → (Target g v × (c ≡ cost 0 0)) ⊎ Tight d (g .edges v) c
       at true t unreached k u = contradiction u
       at true t (reached b) k u = let m : c ≡ b = cc in inl (t, m ∙ sameCost-sound b (cost 0 0) u)
       at false t unreached k u = let z : _≡_ {A = ℕ} 0 1 = cc in absurd (omega arith)
@@ -140,7 +152,8 @@ module _ (g : Graph) (d : ℕ → Entry) (test : certified g d ≡ true) where
       at (inr t) ih =
           let s = ap (λ (k : Cost). k .steps) (t .meets) in
           let p = ih (t .edge .to) (t .ahead) (omega arith) (certified-closed v (t .edge) h (t .listed)) (t .entry) in
-          rw (← t .meets) (record { path = t .edge ∷ p .path; is-path = (t .listed, p .is-path); charged = omega arith; counted = omega arith })
+          rw (← t .meets)
+          (record { path = t .edge ∷ p .path; is-path = (t .listed, p .is-path); charged = omega arith; counted = omega arith })
 
   settled : Settled g d
   settled = record {
@@ -149,4 +162,5 @@ module _ (g : Graph) (d : ℕ → Entry) (test : certified g d ≡ true) where
   }
 
   pub certified-least : LeastCosts g d
-  certified-least = least-costs g certified-closed d (λ v c h q. attained-below (suc (c .steps)) v c (le-refl (suc (c .steps))) h q) settled
+  certified-least =
+      least-costs g certified-closed d (λ v c h q. attained-below (suc (c .steps)) v c (le-refl (suc (c .steps))) h q) settled

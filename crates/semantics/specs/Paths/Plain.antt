@@ -1,5 +1,6 @@
--- Routes over plain nodes: a graph in which no node has two edges of one label is a system whose states have a single corner. So the best route
--- from a node is read off a table of least costs greedily: at each node the least label of an edge by which the entry at hand is met.
+-- Routes over plain nodes: a graph in which no node has two edges of one label is a system whose states have a single corner. So the best
+-- route from a node is read off a table of least costs greedily: at each node the least label of an edge whose weight and the entry of whose
+-- end add up to the entry at hand, with one step fewer.
 -- Assumes nothing.
 use mathlib.Core.Path.{_≡_, refl, sym, _∙_, ap}
 use mathlib.Core.Bool.{Bool, true, false}
@@ -16,7 +17,7 @@ use Rattle.semantics.specs.Paths.Labels.{best-map}
 use Rattle.semantics.specs.Paths.System.{System, Arrives, Follows, Predecessor, arrives-cons, corner-path}
 use Rattle.semantics.specs.Paths.Route.{FirstFrom, Routing}
 use Rattle.semantics.specs.Paths.Prefix.{StartsAt, start-completes, start-bound, first-best}
-use Rattle.semantics.specs.Paths.Greedy.{greedy, greedy-first}
+use Rattle.semantics.specs.Paths.Greedy.{greedy, LabelsBelow, greedy-first}
 
 -- No node has two edges of one label.
 abbrev pub Deterministic : Graph → Type 0
@@ -36,10 +37,12 @@ pub record PricedNode : Type 0 where
 abbrev pub moved : PricedNode → Edge → PricedNode
 moved x e = record { node = e .to; price = x .price + e .weight }
 
+-- The same, if there is an edge.
 abbrev pub moveBy : PricedNode → Option Edge → Option PricedNode
 moveBy x none = none
 moveBy x (some e) = some (moved x e)
 
+-- The graph as a system.
 abbrev pub plain : Graph → System
 plain g = record {
   State = PricedNode;
@@ -49,6 +52,7 @@ plain g = record {
   price = λ x j. x .price;
 }
 
+-- A node to start from.
 abbrev pub startNode : ℕ → PricedNode
 startNode v = record { node = v; price = 0 }
 
@@ -76,11 +80,13 @@ withLabel-found l (f ∷ es) e m q = go (eqb (f .label) l) refl (withLabel-found
         (b : Bool) → eqb (f .label) l ≡ b → (List·Memᴰ e es → e .label ≡ l → (h : Edge) × (withLabel l es ≡ some h))
         → (h : Edge) × ((elim b [ true ↦ some f | false ↦ withLabel l es ]) ≡ some h)
     go true t ih = (f, refl)
-    go false t ih = ⊎-elim (λ k. absurd (eqb-false (f .label) l t (ap (λ (h : Edge). h .label) (sym k) ∙ q))) (λ k. ih k q) (List·Memᴰ·cases-cons m)
+    go false t ih =
+        ⊎-elim (λ k. absurd (eqb-false (f .label) l t (ap (λ (h : Edge). h .label) (sym k) ∙ q))) (λ k. ih k q) (List·Memᴰ·cases-cons m)
 
 module _ (g : Graph) where
   -- The edge behind a step.
-  plain-edge : (x y : PricedNode) (l : ℕ) → plain g .step l x ≡ some y → (e : Edge) × Labelled l (g .edges (x .node)) e × (moved x e ≡ y)
+  plain-edge :
+      (x y : PricedNode) (l : ℕ) → plain g .step l x ≡ some y → (e : Edge) × Labelled l (g .edges (x .node)) e × (moved x e ≡ y)
   plain-edge x y l q = go (withLabel l (g .edges (x .node))) refl q
     where
       go :
@@ -91,7 +97,8 @@ module _ (g : Graph) where
 
 module _ (g : Graph) (closed : Closed g) (det : Deterministic g) where
   -- An edge is taken by its label.
-  plain-step : (x : PricedNode) (e : Edge) → x .node < g .nodes → Leaves g (x .node) e → plain g .step (e .label) x ≡ some (moved x e)
+  plain-step :
+      (x : PricedNode) (e : Edge) → x .node < g .nodes → Leaves g (x .node) e → plain g .step (e .label) x ≡ some (moved x e)
   plain-step x e h l =
       let f = withLabel-found (e .label) (g .edges (x .node)) e l refl in
       let r = withLabel-sound (e .label) (g .edges (x .node)) (f .0) (f .1) in
@@ -112,7 +119,9 @@ module _ (g : Graph) (closed : Closed g) (det : Deterministic g) where
     };
   }
     where
-      predecessor : (x y : PricedNode) (l i : ℕ) → (e : Edge) × Labelled l (g .edges (x .node)) e × (moved x e ≡ y) → Predecessor g (plain g) x l y i
+      predecessor :
+          (x y : PricedNode) (l i : ℕ) → (e : Edge) × Labelled l (g .edges (x .node)) e × (moved x e ≡ y)
+          → Predecessor g (plain g) x l y i
       predecessor x y l i (e, f, q) = record {
         corner = 0;
         among = le-refl 1;
@@ -124,11 +133,14 @@ module _ (g : Graph) (closed : Closed g) (det : Deterministic g) where
       }
 
   -- The labels of a path arrive exactly at its charge.
-  path-arrives : (p : List Edge) (x : PricedNode) → x .node < g .nodes → IsPath g (x .node) p → Arrives g (plain g) x (labelsOf p) (x .price + chargeOf p)
+  path-arrives :
+      (p : List Edge) (x : PricedNode) → x .node < g .nodes → IsPath g (x .node) p
+      → Arrives g (plain g) x (labelsOf p) (x .price + chargeOf p)
   path-arrives [] x h w = record { last = x; follows = refl; corner = 0; among = le-refl 1; target = w; priced = omega arith }
   path-arrives (e ∷ p) x h w =
       let a = path-arrives p (moved x e) (closed (x .node) e h (w .0)) (w .1) in
-      arrives-cons g (plain g) x (moved x e) (e .label) (labelsOf p) (x .price + (e .weight + chargeOf p)) (plain-step x e h (w .0)) (rw add-assoc at a)
+      arrives-cons g (plain g) x (moved x e) (e .label) (labelsOf p) (x .price + (e .weight + chargeOf p)) (plain-step x e h (w .0))
+      (rw add-assoc at a)
 
   module _ (v : ℕ) (h : v < g .nodes) where
     -- Labels arrive from node v exactly if a path from v has them.
@@ -165,5 +177,5 @@ module _ (g : Graph) (closed : Closed g) (det : Deterministic g) where
           (greedy-first routing L labels (c .charge) (c .steps) (startNode v) h (start-bound routing (startNode v) v start c q)
           (start-completes routing (startNode v) v start c q))
         where
-          labels : (x y : PricedNode) (l : ℕ) → x .node < g .nodes → plain g .step l x ≡ some y → l < L
+          labels : LabelsBelow (plain g) (λ x. x .node < g .nodes) L
           labels x y l k s = let e = plain-edge g x y l s in rw (← e .1 .label) (below (x .node) (e .0) k (e .1 .listed))

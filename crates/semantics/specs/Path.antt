@@ -65,7 +65,6 @@ costOf p = cost (chargeOf p) (length p)
 
 infix 50 _≼_
 infix 50 _≺_
-
 -- Costs are compared by charge, then by steps. a is at most b:
 abbrev pub _≼_ : Cost → Cost → Type 0
 _≼_ a b = (a .charge < b .charge) ⊎ ((a .charge ≡ b .charge) × (a .steps ≤ b .steps))
@@ -120,7 +119,6 @@ pub record Settled (g : Graph) (d : ℕ → Entry) : Type 0 where
   pub relaxed : (v : ℕ) (e : Edge) → v < g .nodes → Leaves g v e → Relaxed g d v e
 
 infix 50 _⊑_
-
 -- Label order: ls comes no later than ms. Lists of labels go by the first label in which they differ, and a list before those that go on
 -- from it.
 abbrev pub _⊑_ : List ℕ → List ℕ → Type 0

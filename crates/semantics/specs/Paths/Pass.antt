@@ -1,5 +1,5 @@
--- What a pass over some edges does to the words of the search, be it over one edge, over the edges of a node or over all of them; and how passes
--- follow one another.
+-- What a pass over some edges does to the words of the search, be it over one edge, over the edges of a node or over all of them; and how
+-- passes follow one another.
 -- Assumes nothing.
 use mathlib.Core.Path.{_≡_, refl, _∙_}
 use mathlib.Core.Bool.{Bool, true, false, _||_, or-true, or-false}
@@ -9,12 +9,12 @@ use Prim.Native.Nat.{ℕ, suc, _+_, _*_, _-_, _≤_, _<_}
 use native.Mathlib.Decide.{ℕ-discrete}
 use native.Mathlib.Omega.{arith}
 use lib.ListN.{length, drop}
-use Rattle.semantics.specs.Path.{Edge, Graph, Leaves, Cost, cost, _≺_, HasCost, along, infinity, chargeAt, stepsAt, table}
+use Rattle.semantics.specs.Path.{Edge, Graph, Leaves, Cost, _≺_, HasCost, infinity, chargeAt, stepsAt, table}
 use Rattle.semantics.specs.Paths.Words.{table-reached, stored, stored-length, stored-rest}
 use Rattle.semantics.specs.Paths.Sound.{Sound, Lower, costAt, measure, stored-lower, stored-measure, sound-stored}
 
--- The pass made ws′ of the words ws. They are still sound, the words past the table are untouched, and no entry is higher. The flag says whether the
--- pass stored anything: if not, it found ws to meet `Done`; if so, the measure of the search fell.
+-- The pass made ws′ of the words ws. They are sound, the words past the table are untouched, and no entry is higher. The flag says whether
+-- the pass stored anything: if not, the words are the same and meet Done; if so, the measure of the search fell.
 pub record Pass (g : Graph) (Done : List ℕ → Type 0) (ws ws′ : List ℕ) (changed : Bool) : Type 0 where
   pub sound : Sound g ws′
   pub rest : drop (2 * g .nodes) ws′ ≡ drop (2 * g .nodes) ws
@@ -30,10 +30,11 @@ flag-set a b e = rw e (or-true a)
 pub flag-kept : (a b : Bool) → b ≡ false → (a || b) ≡ a
 flag-kept a b e = rw e (or-false a)
 
--- What holds of each number below n, and of each from v on that is below n.
+-- Done of each number below n.
 abbrev pub Below : (ℕ → List ℕ → Type 0) → ℕ → List ℕ → Type 0
 Below Done n ws = (u : ℕ) → u < n → Done u ws
 
+-- Done of each number from v on that is below n.
 abbrev pub From : (ℕ → List ℕ → Type 0) → ℕ → ℕ → List ℕ → Type 0
 From Done n v ws = (u : ℕ) → v ≤ u → u < n → Done u ws
 
@@ -50,7 +51,8 @@ module _ {g : Graph} {Done : List ℕ → Type 0} {ws : List ℕ} where
   }
 
   -- What an idle pass found may be said another way.
-  pub pass-map : {Done′ : List ℕ → Type 0} {ws′ : List ℕ} {b : Bool} → (Done ws → Done′ ws) → Pass g Done ws ws′ b → Pass g Done′ ws ws′ b
+  pub pass-map :
+      {Done′ : List ℕ → Type 0} {ws′ : List ℕ} {b : Bool} → (Done ws → Done′ ws) → Pass g Done ws ws′ b → Pass g Done′ ws ws′ b
   pass-map f p = record {
     sound = p .sound;
     rest = p .rest;
@@ -67,9 +69,9 @@ module _ {g : Graph} {Done : List ℕ → Type 0} {ws : List ℕ} where
 -- A pass that stores for node v the cost c of edge e and then the entry of its end: fewer than E steps, and less than what stood there.
 pub pass-stored :
     {g : Graph} {Done : List ℕ → Type 0} {ws : List ℕ} (v : ℕ) (e : Edge) (c : Cost)
-    → c .charge ≡ e .weight + chargeAt ws (e .to) → c .steps ≡ suc (stepsAt ws (e .to)) → g .nodes ≤ 4294967296 → Sound g ws → v < g .nodes
-    → e .to < g .nodes → Leaves g v e → chargeAt ws (e .to) ≢ infinity → c .charge ≢ infinity → c .steps < g .nodes → c ≺ costAt ws v
-    → Pass g Done ws (stored ws v c) true
+    → c .charge ≡ e .weight + chargeAt ws (e .to) → c .steps ≡ suc (stepsAt ws (e .to)) → g .nodes ≤ 4294967296 → Sound g ws
+    → v < g .nodes → e .to < g .nodes → Leaves g v e → chargeAt ws (e .to) ≢ infinity → c .charge ≢ infinity
+    → c .steps < g .nodes → c ≺ costAt ws v → Pass g Done ws (stored ws v c) true
 pass-stored {g} {Done} {ws} v e c charged counted small ok h to l end known few less = record {
   sound = sound-stored g ws v c ok h known less new few;
   rest = stored-rest ws v c (g .nodes) h;
@@ -98,14 +100,17 @@ module _ {g : Graph} {ws ws′ ws″ : List ℕ} where
     falls = λ e. falls a b p q (flag ∙ e);
   }
     where
-      idle : (a b : Bool) → Pass g Done ws ws′ a → Pass g Done′ ws′ ws″ b → (a || b) ≡ false → (ws″ ≡ ws) × (Done ws × Done′ ws)
+      idle :
+          (a b : Bool) → Pass g Done ws ws′ a → Pass g Done′ ws′ ws″ b → (a || b) ≡ false → (ws″ ≡ ws) × (Done ws × Done′ ws)
       idle true b p q e = let z : _≡_ {A = ℕ} 0 1 = cc in absurd (omega arith)
       idle false b p q e =
           let x = p .idle refl in
           let y = q .idle e in
           (y .0 ∙ x .0, (x .1, rw (x .0) at (y .1)))
 
-      falls : (a b : Bool) → Pass g Done ws ws′ a → Pass g Done′ ws′ ws″ b → (a || b) ≡ true → measure (g .nodes) ws″ < measure (g .nodes) ws
+      falls :
+          (a b : Bool) → Pass g Done ws ws′ a → Pass g Done′ ws′ ws″ b → (a || b) ≡ true
+          → measure (g .nodes) ws″ < measure (g .nodes) ws
       falls true true p q e = omega (arith, p .falls refl, q .falls refl)
       falls true false p q e = rw (q .idle refl .0) (p .falls refl)
       falls false b p q e = rw (← p .idle refl .0) (q .falls e)

@@ -7,7 +7,7 @@ use native.Mathlib.Decide.{ℕ-discrete, decLt}
 use native.Mathlib.Omega.{arith}
 use lib.ListN.{length, drop}
 use Rattle.semantics.specs.Path.{Graph, Target, Cost, cost, HasCost, reached, infinity, chargeAt, table}
-use Rattle.semantics.specs.Paths.Words.{HoldsCost, reached-words, table-stored, table-other, stored, stored-length, stored-rest}
+use Rattle.semantics.specs.Paths.Words.{reached-words, table-stored, table-other, stored, stored-length, stored-rest}
 use Rattle.semantics.specs.Paths.Sound.{Sound}
 
 -- The words ws, in which no node was reached, became ws′, in which the targets below v have cost 0 and no other node is reached.
@@ -18,6 +18,7 @@ pub record Seeded (g : Graph) (v : ℕ) (ws ws′ : List ℕ) : Type 0 where
   pub rest : drop (2 * g .nodes) ws′ ≡ drop (2 * g .nodes) ws
   pub kept : length ws′ ≡ length ws
 
+-- Nothing is set yet.
 pub seeded-none :
     (g : Graph) (ws : List ℕ) → 2 * g .nodes ≤ length ws → ((u : ℕ) → u < g .nodes → chargeAt ws u ≡ infinity) → Seeded g 0 ws ws
 seeded-none g ws room blank = record {
@@ -31,7 +32,8 @@ seeded-none g ws room blank = record {
 module _ {g : Graph} {v : ℕ} {ws ws′ : List ℕ} (s : Seeded g v ws ws′) where
   -- The nodes from v to below w are no targets.
   pub seeded-skip : (w : ℕ) → ((u : ℕ) → v ≤ u → u < w → Target g u → ⊥) → Seeded g w ws ws′
-  seeded-skip w none = record { room = s .room; only = s .only; targets = λ u h k t. at u h k t (decLt u v); rest = s .rest; kept = s .kept }
+  seeded-skip w none =
+      record { room = s .room; only = s .only; targets = λ u h k t. at u h k t (decLt u v); rest = s .rest; kept = s .kept }
     where
       at : (u : ℕ) → u < w → u < g .nodes → Target g u → Dec (u < v) → table ws′ u ≡ reached (cost 0 0)
       at u h k t (yes l) = s .targets u l k t
@@ -50,13 +52,16 @@ module _ {g : Graph} {v : ℕ} {ws ws′ : List ℕ} (s : Seeded g v ws ws′) w
       here : table (stored ws′ v (cost 0 0)) v ≡ reached (cost 0 0)
       here = table-stored ws′ v (cost 0 0) (omega (arith, s .room)) (λ e. omega arith)
 
-      only : (u : ℕ) (c : Cost) → u < g .nodes → table (stored ws′ v (cost 0 0)) u ≡ reached c → Dec (u ≡ v) → Target g u × (c ≡ cost 0 0)
+      only :
+          (u : ℕ) (c : Cost) → u < g .nodes → table (stored ws′ v (cost 0 0)) u ≡ reached c → Dec (u ≡ v)
+          → Target g u × (c ≡ cost 0 0)
       only u c k q (yes e) =
           let x : table (stored ws′ v (cost 0 0)) v ≡ reached c = rw e at q in
           (rw e t, cc here)
       only u c k q (no ne) = s .only u c k (rw (table-other ws′ v (cost 0 0) u ne) at q)
 
-      at : (u : ℕ) → u < v + 1 → u < g .nodes → Target g u → Dec (u ≡ v) → table (stored ws′ v (cost 0 0)) u ≡ reached (cost 0 0)
+      at :
+          (u : ℕ) → u < v + 1 → u < g .nodes → Target g u → Dec (u ≡ v) → table (stored ws′ v (cost 0 0)) u ≡ reached (cost 0 0)
       at u k n x (yes e) = rw e here
       at u k n x (no ne) = table-other ws′ v (cost 0 0) u ne ∙ s .targets u (omega arith) n x
 

@@ -1,5 +1,5 @@
--- What holds of the words all through the search, and that a store of a lesser cost keeps it. Once no edge improves an entry, the words hold the
--- least costs. The measure of the search falls with every store.
+-- What holds of the words all through the search, and that a store of a lesser cost keeps it. Once no edge improves an entry, the words
+-- hold the least costs. The measure of the search falls with every store.
 -- Assumes nothing.
 use mathlib.Core.Path.{_≡_, refl, _∙_}
 use mathlib.Core.Logic.{_≢_, inl, inr}
@@ -8,7 +8,7 @@ use Prim.Native.Nat.{ℕ, suc, _+_, _*_, _≤_, _<_}
 use native.Mathlib.Decide.{ℕ-discrete}
 use native.Mathlib.Omega.{arith}
 use lib.ListN.{length}
-use Rattle.semantics.specs.Path.{Edge, Graph, Leaves, Target, Closed, WeightsWithin, Cost, cost, _≼_, _≺_, HasCost, Entry, unreached, reached, LeastCosts, Attained, Within, along, Relaxed, Settled, infinity, chargeAt, stepsAt, table}
+use Rattle.semantics.specs.Path.{Edge, Graph, Leaves, Target, Closed, WeightsWithin, Cost, cost, _≼_, _≺_, HasCost, Entry, unreached, reached, LeastCosts, Attained, Within, along, Relaxed, infinity, chargeAt, stepsAt, table}
 use Rattle.semantics.specs.Paths.Cost.{cost-trans, cost-weaken, cost-both}
 use Rattle.semantics.specs.Paths.Loops.{path-charge}
 use Rattle.semantics.specs.Paths.Distance.{least-costs}
@@ -30,10 +30,11 @@ NodeRelaxed g d v = (e : Edge) → Leaves g v e → Relaxed g d v e
 abbrev pub costAt : List ℕ → ℕ → Cost
 costAt ws v = cost (chargeAt ws v) (stepsAt ws v)
 
--- What the node adds to the measure of the search, and the measure.
+-- What node v adds to the measure of the search: a lesser cost makes it less.
 abbrev pub nodeMeasure : List ℕ → ℕ → ℕ
 nodeMeasure ws v = 4294967296 * chargeAt ws v + stepsAt ws v
 
+-- The measure: the sum over the first E nodes.
 unfoldable pub measure : ℕ → List ℕ → ℕ
 measure E ws = sum (nodeMeasure ws) E
 
@@ -59,7 +60,8 @@ module _ (g : Graph) (ws : List ℕ) where
   -- That an edge improves nothing, by the words: it need be shown only of a reached end and for fewer than E steps.
   pub relaxed-words :
       (v : ℕ) (e : Edge)
-      → (chargeAt ws (e .to) ≢ infinity → suc (stepsAt ws (e .to)) < g .nodes → (chargeAt ws v ≢ infinity) × (costAt ws v ≼ along e (costAt ws (e .to))))
+      → (chargeAt ws (e .to) ≢ infinity → suc (stepsAt ws (e .to)) < g .nodes
+      → (chargeAt ws v ≢ infinity) × (costAt ws v ≼ along e (costAt ws (e .to))))
       → Relaxed g (table ws) v e
   relaxed-words v e shown c q few =
       let w = reached-words ws (e .to) c q in
@@ -79,10 +81,13 @@ relaxed-loop g d v e same c q few =
     rw x (cost-both c (along e c) (omega arith) (omega arith))
 
 -- A store for node v of a cost that is less than what stood there.
-module _ (g : Graph) (ws : List ℕ) (v : ℕ) (c : Cost) (ok : Sound g ws) (h : v < g .nodes) (known : c .charge ≢ infinity) (less : c ≺ costAt ws v) where
+module _ (g : Graph) (ws : List ℕ) (v : ℕ) (c : Cost) (ok : Sound g ws) (h : v < g .nodes)
+    (known : c .charge ≢ infinity) (less : c ≺ costAt ws v) where
+  -- The words of v are there.
   fits : 2 * v + 1 < length ws
   fits = omega (arith, ok .room)
 
+  -- No entry is higher after it.
   pub stored-lower : (u : ℕ) → Lower (table (stored ws v c) u) (table ws u)
   stored-lower u b k = at (ℕ-discrete u v) k
     where
@@ -107,7 +112,9 @@ module _ (g : Graph) (ws : List ℕ) (v : ℕ) (c : Cost) (ok : Sound g ws) (h :
       at (inr x) = omega (arith, stored-charge ws v c fits, stored-steps ws v c fits)
 
   -- The edge that offered the cost improves nothing any more.
-  pub relaxed-stored : (e : Edge) → c .charge ≡ e .weight + chargeAt ws (e .to) → c .steps ≡ suc (stepsAt ws (e .to)) → Relaxed g (table (stored ws v c)) v e
+  pub relaxed-stored :
+      (e : Edge) → c .charge ≡ e .weight + chargeAt ws (e .to) → c .steps ≡ suc (stepsAt ws (e .to))
+      → Relaxed g (table (stored ws v c)) v e
   relaxed-stored e charged counted b q few = at (ℕ-discrete (e .to) v)
     where
       at : Dec (e .to ≡ v) → Within (table (stored ws v c) v) (along e b)
@@ -132,6 +139,7 @@ module _ (g : Graph) (ws : List ℕ) (v : ℕ) (c : Cost) (ok : Sound g ws) (h :
     targets = λ u k t. targets u k t (ℕ-discrete u v);
   }
     where
+      -- Only the entry of v is new.
       new-entry : (u : ℕ) (b : Cost) → table (stored ws v c) u ≡ reached b → u ≡ v → b ≡ c
       new-entry u b q e =
           let x : table (stored ws v c) v ≡ reached b = rw e at q in

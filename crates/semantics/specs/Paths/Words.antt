@@ -4,13 +4,13 @@ use mathlib.Core.Path.{_≡_, refl, _∙_}
 use mathlib.Core.Bool.{Bool, true, false, cond}
 use mathlib.Core.Logic.{_≢_}
 use mathlib.Core.List.{List}
-use Prim.Native.Nat.{ℕ, _+_, _*_, _≤_, _<_}
+use Prim.Native.Nat.{ℕ, _+_, _*_, _<_}
 use native.Mathlib.Omega.{arith}
 use lib.Dec.{eqb}
-use lib.ListN.{length, getD, set, drop, length-set}
+use lib.ListN.{length, set, drop, length-set}
 use lib.Seq.{getD-set-same, getD-set-other, drop-set-lt}
 use borrow.Author.Tests.{eq-eqb, ne-eqb, eqb-true, eqb-false}
-use Rattle.semantics.specs.Path.{Cost, cost, Entry, unreached, reached, infinity, chargeAt, stepsAt, table}
+use Rattle.semantics.specs.Path.{Cost, cost, unreached, reached, infinity, chargeAt, stepsAt, table}
 
 -- The words of node v hold the cost c.
 pub record HoldsCost (ws : List ℕ) (v : ℕ) (c : Cost) : Type 0 where

@@ -17,8 +17,8 @@ use Rattle.semantics.specs.Corners.Lists.{mem-below}
 use Rattle.semantics.specs.Corners.Every.{every, every-mem}
 use Rattle.semantics.specs.Paths.Distance.{least-costs}
 
-abbrev pub atMost : Cost → Cost → Bool
-atMost a b = ltb (a .charge) (b .charge) || (eqb (a .charge) (b .charge) && leb (a .steps) (b .steps))
+abbrev pub costAtMost : Cost → Cost → Bool
+costAtMost a b = ltb (a .charge) (b .charge) || (eqb (a .charge) (b .charge) && leb (a .steps) (b .steps))
 
 abbrev pub sameCost : Cost → Cost → Bool
 sameCost a b = eqb (a .charge) (b .charge) && eqb (a .steps) (b .steps)
@@ -27,7 +27,7 @@ sameCost a b = eqb (a .charge) (b .charge) && eqb (a .steps) (b .steps)
 abbrev pub noBetter : Entry → Edge → Entry → Bool
 noBetter x e unreached = true
 noBetter unreached e (reached b) = false
-noBetter (reached c) e (reached b) = atMost c (along e b)
+noBetter (reached c) e (reached b) = costAtMost c (along e b)
 
 -- Whether edge e, by the entry of its end, offers exactly c.
 abbrev pub tight : Cost → Edge → Entry → Bool
@@ -64,8 +64,8 @@ or-cases : (a b : Bool) → (a || b) ≡ true → (a ≡ true) ⊎ (b ≡ true)
 or-cases true b t = inl refl
 or-cases false b t = inr t
 
-atMost-sound : (a b : Cost) → atMost a b ≡ true → a ≼ b
-atMost-sound a b t = at (or-cases (ltb (a .charge) (b .charge)) (eqb (a .charge) (b .charge) && leb (a .steps) (b .steps)) t)
+costAtMost-true : (a b : Cost) → costAtMost a b ≡ true → a ≼ b
+costAtMost-true a b t = at (or-cases (ltb (a .charge) (b .charge)) (eqb (a .charge) (b .charge) && leb (a .steps) (b .steps)) t)
   where
     at : (ltb (a .charge) (b .charge) ≡ true) ⊎ ((eqb (a .charge) (b .charge) && leb (a .steps) (b .steps)) ≡ true) → a ≼ b
     at (inl x) = inl (ltb-true (a .charge) (b .charge) x)
@@ -73,17 +73,17 @@ atMost-sound a b t = at (or-cases (ltb (a .charge) (b .charge)) (eqb (a .charge)
         let p = and-true-iff (eqb (a .charge) (b .charge)) (leb (a .steps) (b .steps)) .0 x in
         inr (eqb-true (a .charge) (b .charge) (p .0), leb-true (a .steps) (b .steps) (p .1))
 
-sameCost-sound : (a b : Cost) → sameCost a b ≡ true → a ≡ b
-sameCost-sound a b t =
+sameCost-true : (a b : Cost) → sameCost a b ≡ true → a ≡ b
+sameCost-true a b t =
     let p = and-true-iff (eqb (a .charge) (b .charge)) (eqb (a .steps) (b .steps)) .0 t in
     let c = eqb-true (a .charge) (b .charge) (p .0) in
     let s = eqb-true (a .steps) (b .steps) (p .1) in
     λ i. record { charge = c i; steps = s i }
 
-noBetter-sound : (x y : Entry) (e : Edge) (b : Cost) → noBetter x e y ≡ true → y ≡ reached b → Within x (along e b)
-noBetter-sound x unreached e b t q = let z : _≡_ {A = ℕ} 0 1 = cc in absurd (omega arith)
-noBetter-sound unreached (reached a) e b t q = contradiction t
-noBetter-sound (reached c) (reached a) e b t q = let k : a ≡ b = cc in rw k at (atMost-sound c (along e a) t)
+noBetter-true : (x y : Entry) (e : Edge) (b : Cost) → noBetter x e y ≡ true → y ≡ reached b → Within x (along e b)
+noBetter-true x unreached e b t q = let z : _≡_ {A = ℕ} 0 1 = cc in absurd (omega arith)
+noBetter-true unreached (reached a) e b t q = contradiction t
+noBetter-true (reached c) (reached a) e b t q = let k : a ≡ b = cc in rw k at (costAtMost-true c (along e a) t)
 
 -- An edge of the list that offers exactly c, and the entry of its end.
 record Tight (d : ℕ → Entry) (es : List Edge) (c : Cost) : Type 0 where
@@ -93,13 +93,13 @@ record Tight (d : ℕ → Entry) (es : List Edge) (c : Cost) : Type 0 where
   entry : d (edge .to) ≡ reached ahead
   meets : along edge ahead ≡ c
 
-someTight-sound : (d : ℕ → Entry) (c : Cost) (es : List Edge) → someTight d c es ≡ true → Tight d es c
-someTight-sound d c [] t = contradiction t
-someTight-sound d c (e ∷ es) t = at (or-cases (tight c e (d (e .to))) (someTight d c es) t) (someTight-sound d c es)
+someTight-true : (d : ℕ → Entry) (c : Cost) (es : List Edge) → someTight d c es ≡ true → Tight d es c
+someTight-true d c [] t = contradiction t
+someTight-true d c (e ∷ es) t = at (or-cases (tight c e (d (e .to))) (someTight d c es) t) (someTight-true d c es)
   where
     here : (x : Entry) → d (e .to) ≡ x → tight c e x ≡ true → Tight d (e ∷ es) c
     here unreached q u = contradiction u
-    here (reached b) q u = record { edge = e; listed = List·Memᴰ·head refl; ahead = b; entry = q; meets = sameCost-sound (along e b) c u }
+    here (reached b) q u = record { edge = e; listed = List·Memᴰ·head refl; ahead = b; entry = q; meets = sameCost-true (along e b) c u }
 
     at : (tight c e (d (e .to)) ≡ true) ⊎ (someTight d c es ≡ true) → (someTight d c es ≡ true → Tight d es c) → Tight d (e ∷ es) c
     at (inl u) ih = here (d (e .to)) refl u
@@ -109,7 +109,7 @@ someTight-sound d c (e ∷ es) t = at (or-cases (tight c e (d (e .to))) (someTig
 
 target-entry : (d : ℕ → Entry) (es : List Edge) (x : Entry) → entryTest true d es x ≡ true → x ≡ reached (cost 0 0)
 target-entry d es unreached t = contradiction t
-target-entry d es (reached c) t = ap {B = Entry} reached (sameCost-sound c (cost 0 0) t)
+target-entry d es (reached c) t = ap {B = Entry} reached (sameCost-true c (cost 0 0) t)
 
 module _ (g : Graph) (d : ℕ → Entry) (test : certified g d ≡ true) where
   node-parts :
@@ -136,9 +136,9 @@ module _ (g : Graph) (d : ℕ → Entry) (test : certified g d ≡ true) where
           (b : Bool) → g .isTarget v ≡ b → (x : Entry) → d v ≡ x → entryTest b d (g .edges v) x ≡ true
           → (Target g v × (c ≡ cost 0 0)) ⊎ Tight d (g .edges v) c
       at true t unreached k u = contradiction u
-      at true t (reached b) k u = let m : c ≡ b = cc in inl (t, m ∙ sameCost-sound b (cost 0 0) u)
+      at true t (reached b) k u = let m : c ≡ b = cc in inl (t, m ∙ sameCost-true b (cost 0 0) u)
       at false t unreached k u = let z : _≡_ {A = ℕ} 0 1 = cc in absurd (omega arith)
-      at false t (reached b) k u = let m : b ≡ c = cc in inr (rw m at (someTight-sound d b (g .edges v) u))
+      at false t (reached b) k u = let m : b ≡ c = cc in inr (rw m at (someTight-true d b (g .edges v) u))
 
   -- Along its tight edges, an entry of fewer than n steps is attained.
   attained-below : (n v : ℕ) (c : Cost) → c .steps < n → v < g .nodes → d v ≡ reached c → HasCost g v c
@@ -158,7 +158,7 @@ module _ (g : Graph) (d : ℕ → Entry) (test : certified g d ≡ true) where
   settled : Settled g d
   settled = record {
     targets = λ v h t. target-entry d (g .edges v) (d v) (rw t at (node-parts v h .0));
-    relaxed = λ v e h l b q few. noBetter-sound (d v) (d (e .to)) e b (edge-parts v e h l .1) q;
+    relaxed = λ v e h l b q few. noBetter-true (d v) (d (e .to)) e b (edge-parts v e h l .1) q;
   }
 
   pub certified-least : LeastCosts g d

@@ -49,7 +49,7 @@ module _ {Comes : List ℕ → ℕ → Type 0} (c b : Cost) (ls ms : List ℕ) (
   pub best-unique : (c ≡ b) × (ls ≡ ms)
   best-unique = (best-cost, first-unique ls ms (x .first) (rw best-cost (y .first)))
 
--- Charges that are said another way.
+-- What comes, said another way.
 pub best-map :
     {Comes Comes′ : List ℕ → ℕ → Type 0} (c : Cost) (ls : List ℕ) → ((ms : List ℕ) (b : ℕ) → Comes ms b → Comes′ ms b)
     → ((ms : List ℕ) (b : ℕ) → Comes′ ms b → Comes ms b) → Best Comes c ls → Best Comes′ c ls
@@ -86,17 +86,5 @@ best-short Comes n short c labels x = record {
   first = record {
     good = (x .first .good .0 .0, x .first .good .1);
     first = λ ls h. x .first .first ls ((h .0, omega (arith, x .first .good .0 .1, x .first .good .1, h .1)), h .1);
-  };
-}
-
--- And the other way round, if it has fewer than n labels.
-pub best-among :
-    (Comes : List ℕ → ℕ → Type 0) (n : ℕ) (c : Cost) (labels : List ℕ) → c .steps < n → Best Comes c labels
-    → Best (Few n Comes) c labels
-best-among Comes n c labels few x = record {
-  least = λ ls charge h. x .least ls charge (h .0);
-  first = record {
-    good = ((x .first .good .0, omega (arith, x .first .good .1)), x .first .good .1);
-    first = λ ls h. x .first .first ls (h .0 .0, h .1);
   };
 }

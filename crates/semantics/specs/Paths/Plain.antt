@@ -16,8 +16,8 @@ use Rattle.semantics.specs.Path.{Edge, Graph, Leaves, Closed, IsPath, la
 use Rattle.semantics.specs.Paths.Labels.{best-map}
 use Rattle.semantics.specs.Paths.System.{System, Arrives, Follows, Predecessor, arrives-cons, corner-path}
 use Rattle.semantics.specs.Paths.Route.{FirstFrom, Routing}
-use Rattle.semantics.specs.Paths.Prefix.{StartsAt, start-completes, start-bound, first-best}
-use Rattle.semantics.specs.Paths.Greedy.{greedy, LabelsBelow, greedy-first}
+use Rattle.semantics.specs.Paths.Start.{StartsAt, start-best}
+use Rattle.semantics.specs.Paths.Greedy.{greedy, LabelsBelow, greedy-best}
 
 -- No node has two edges of one label.
 abbrev pub Deterministic : Graph → Type 0
@@ -61,9 +61,9 @@ record Labelled (l : ℕ) (es : List Edge) (e : Edge) : Type 0 where
   listed : List·Memᴰ e es
   label : e .label ≡ l
 
-withLabel-sound : (l : ℕ) (es : List Edge) (e : Edge) → withLabel l es ≡ some e → Labelled l es e
-withLabel-sound l [] e q = let z : _≡_ {A = ℕ} 0 1 = cc in absurd (omega arith)
-withLabel-sound l (f ∷ es) e q = go (eqb (f .label) l) refl q (withLabel-sound l es e)
+withLabel-some : (l : ℕ) (es : List Edge) (e : Edge) → withLabel l es ≡ some e → Labelled l es e
+withLabel-some l [] e q = let z : _≡_ {A = ℕ} 0 1 = cc in absurd (omega arith)
+withLabel-some l (f ∷ es) e q = go (eqb (f .label) l) refl q (withLabel-some l es e)
   where
     go :
         (b : Bool) → eqb (f .label) l ≡ b → (elim b [ true ↦ some f | false ↦ withLabel l es ]) ≡ some e
@@ -72,9 +72,9 @@ withLabel-sound l (f ∷ es) e q = go (eqb (f .label) l) refl q (withLabel-sound
     go false t h ih = let r = ih h in record { listed = List·Memᴰ·tail (r .listed); label = r .label }
 
 -- Some edge is found if there is one.
-withLabel-found : (l : ℕ) (es : List Edge) (e : Edge) → List·Memᴰ e es → e .label ≡ l → (f : Edge) × (withLabel l es ≡ some f)
-withLabel-found l [] e m q = absurd (List·Memᴰ·not-nil m)
-withLabel-found l (f ∷ es) e m q = go (eqb (f .label) l) refl (withLabel-found l es e)
+some-withLabel : (l : ℕ) (es : List Edge) (e : Edge) → List·Memᴰ e es → e .label ≡ l → (f : Edge) × (withLabel l es ≡ some f)
+some-withLabel l [] e m q = absurd (List·Memᴰ·not-nil m)
+some-withLabel l (f ∷ es) e m q = go (eqb (f .label) l) refl (some-withLabel l es e)
   where
     go :
         (b : Bool) → eqb (f .label) l ≡ b → (List·Memᴰ e es → e .label ≡ l → (h : Edge) × (withLabel l es ≡ some h))
@@ -93,15 +93,15 @@ module _ (g : Graph) where
           (o : Option Edge) → withLabel l (g .edges (x .node)) ≡ o → moveBy x o ≡ some y
           → (e : Edge) × Labelled l (g .edges (x .node)) e × (moved x e ≡ y)
       go none f h = let z : _≡_ {A = ℕ} 0 1 = cc in absurd (omega arith)
-      go (some e) f h = (e, withLabel-sound l (g .edges (x .node)) e f, cc)
+      go (some e) f h = (e, withLabel-some l (g .edges (x .node)) e f, cc)
 
 module _ (g : Graph) (closed : Closed g) (det : Deterministic g) where
   -- An edge is taken by its label.
   plain-step :
       (x : PricedNode) (e : Edge) → x .node < g .nodes → Leaves g (x .node) e → plain g .step (e .label) x ≡ some (moved x e)
   plain-step x e h l =
-      let f = withLabel-found (e .label) (g .edges (x .node)) e l refl in
-      let r = withLabel-sound (e .label) (g .edges (x .node)) (f .0) (f .1) in
+      let f = some-withLabel (e .label) (g .edges (x .node)) e l refl in
+      let r = withLabel-some (e .label) (g .edges (x .node)) (f .0) (f .1) in
       ap (moveBy x) (f .1) ∙ ap (λ (k : Edge). some (moved x k)) (det (x .node) (f .0) e h (r .listed) l (r .label))
 
   pub plain-follows : Follows g (plain g) (λ x. x .node < g .nodes)
@@ -164,18 +164,15 @@ module _ (g : Graph) (closed : Closed g) (det : Deterministic g) where
 
       -- The first labels that arrive at the entry of v are the best route.
       pub plain-best : (ls : List ℕ) → FirstFrom g (plain g) (startNode v) c ls → Best (HasLabels g v) c ls
-      plain-best ls f =
-          best-map c ls arrives-labels labels-arrive
-          (first-best routing (startNode v) c ls h (start-bound routing (startNode v) v start c q) f)
+      plain-best ls f = best-map c ls arrives-labels labels-arrive (start-best routing (startNode v) v start h c q ls f)
 
       -- The greedy reading gives it, if all labels are below L.
       pub plain-greedy :
           (L : ℕ) → ((u : ℕ) (e : Edge) → u < g .nodes → Leaves g u e → e .label < L)
           → Best (HasLabels g v) c (greedy (plain g) d L (c .charge) (c .steps) (startNode v))
       plain-greedy L below =
-          plain-best (greedy (plain g) d L (c .charge) (c .steps) (startNode v))
-          (greedy-first routing L labels (c .charge) (c .steps) (startNode v) h (start-bound routing (startNode v) v start c q)
-          (start-completes routing (startNode v) v start c q))
+          best-map c (greedy (plain g) d L (c .charge) (c .steps) (startNode v)) arrives-labels labels-arrive
+          (greedy-best routing L labels (startNode v) v c h start q)
         where
           labels : LabelsBelow (plain g) (λ x. x .node < g .nodes) L
           labels x y l k s = let e = plain-edge g x y l s in rw (← e .1 .label) (below (x .node) (e .0) k (e .1 .listed))

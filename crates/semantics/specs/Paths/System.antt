@@ -8,10 +8,10 @@ use mathlib.Core.Option.{Option, none, some}
 use Prim.Native.Nat.{ℕ, _+_, _≤_, _<_}
 use native.Mathlib.Omega.{arith}
 use lib.ListN.{length, length-map}
-use Rattle.semantics.specs.Path.{Edge, Graph, Leaves, Target, Closed, IsPath, labelsOf, chargeOf, cost}
+use Rattle.semantics.specs.Path.{Edge, Graph, Leaves, Target, Closed, IsPath, labelsOf, chargeOf, Cost, cost, Best}
 use Rattle.semantics.specs.Paths.Cost.{cost-both}
 use Rattle.semantics.specs.Paths.Loops.{short-path}
-use Rattle.semantics.specs.Paths.Labels.{Shortened}
+use Rattle.semantics.specs.Paths.Labels.{Shortened, Few, best-short}
 
 -- A system: its states, the next state by a label if the label is allowed, and for each state the number of its corners, and the node and
 -- the price of each corner.
@@ -56,18 +56,19 @@ pub record Successor (g : Graph) (s : System) (x : s .State) (j : ℕ) (e : Edge
   pub leads : s .node next corner ≡ e .to
   pub priced : s .price next corner ≤ s .price x j + e .weight
 
--- The laws of a system over a graph, for its valid states.
+-- The laws of a system over a graph, for its valid states. By the last two, a price after a step is the least, over the edges of the step's
+-- label that lead to its corner, of the price before the edge and the edge's weight.
 pub record Follows (g : Graph) (s : System) (Valid : s .State → Type 0) : Type 0 where
   -- A step leads from a valid state to a valid state.
   pub valid : (x y : s .State) (l : ℕ) → Valid x → s .step l x ≡ some y → Valid y
   -- The corners of a valid state are nodes of the graph.
   pub inside : (x : s .State) (j : ℕ) → Valid x → j < s .corners x → s .node x j < g .nodes
-  -- Each price after a step is the price of some corner before it and the weight of an edge with the step's label.
+  -- Each price after a step is the price of some corner before it and the weight of an edge of the step's label.
   pub predecessor : (x y : s .State) (l i : ℕ) → Valid x → s .step l x ≡ some y → i < s .corners y → Predecessor g s x l y i
-  -- Each edge of a corner can be taken by its label, and no price after the step is more than by such an edge.
+  -- Each edge of a corner can be taken by its label, and the price at its end is no more than by this edge.
   pub successor : (x : s .State) (j : ℕ) (e : Edge) → Valid x → j < s .corners x → Leaves g (s .node x j) e → Successor g s x j e
 
--- A path with the labels ls from a corner of x into the targets, and the price to which it leads.
+-- A corner path: a path with the labels ls from a corner of x into the targets, whose charge and the corner's price make this price.
 pub record CornerPath (g : Graph) (s : System) (x : s .State) (ls : List ℕ) (price : ℕ) : Type 0 where
   pub corner : ℕ
   pub among : corner < s .corners x
@@ -111,17 +112,17 @@ module _ (g : Graph) (s : System) where
         record { last = a .last; follows = f; corner = a .corner; among = a .among; target = a .target; priced = a .priced },
       )
 
-  -- Where no labels are needed.
+  -- Where the empty list arrives, x itself has a corner in a target.
   pub arrives-here :
       (x : s .State) (c : ℕ) → Arrives g s x [] c → (j : ℕ) × (j < s .corners x) × Target g (s .node x j) × (s .price x j ≡ c)
   arrives-here x c a = let e : a .last ≡ x = cc in (a .corner, rw e at (a .among), rw e at (a .target), rw e at (a .priced))
 
-  -- The path behind labels has as many edges.
+  -- A corner path has as many edges as labels.
   pub corner-path-length : (x : s .State) (ls : List ℕ) (c : ℕ) (b : CornerPath g s x ls c) → length (b .path) ≡ length ls
   corner-path-length x ls c b = sym (length-map (b .path) (λ e. e .label)) ∙ ap length (b .labelled)
 
 module _ (g : Graph) (s : System) (Valid : s .State → Type 0) (laws : Follows g s Valid) where
-  -- Where labels arrive there is a path behind them.
+  -- Labels that arrive have a corner path.
   pub corner-path : (ls : List ℕ) (x : s .State) (c : ℕ) → Valid x → Arrives g s x ls c → CornerPath g s x ls c
   corner-path [] x c ok a =
       let h = arrives-here g s x c a in
@@ -130,7 +131,7 @@ module _ (g : Graph) (s : System) (Valid : s .State → Type 0) (laws : Follows 
       let n = arrives-step g s x l ls c a in
       before (n .0) (n .1) (corner-path ls (n .0) c (laws .valid x (n .0) l ok (n .1)) (n .2))
     where
-      -- The edge behind the first label, before the path behind the others.
+      -- The edge of the first label, before the path of the others.
       before : (y : s .State) → s .step l x ≡ some y → CornerPath g s y ls c → CornerPath g s x (l ∷ ls) c
       before y e b =
           let r = laws .predecessor x y l (b .corner) ok e (b .among) in
@@ -143,7 +144,7 @@ module _ (g : Graph) (s : System) (Valid : s .State → Type 0) (laws : Follows 
             priced = omega arith;
           }
 
-  -- And the labels of a path arrive, at no more than its charge.
+  -- The labels of a path from a corner arrive, at no more than the corner's price and its charge.
   pub arrives-path :
       (p : List Edge) (x : s .State) (j : ℕ) → Valid x → j < s .corners x → IsPath g (s .node x j) p
       → ArrivesWithin g s x (labelsOf p) (s .price x j + chargeOf p)
@@ -179,3 +180,9 @@ module _ (g : Graph) (s : System) (Valid : s .State → Type 0) (laws : Follows 
         few = omega arith;
         within = cost-both (cost (m .price) (length (labelsOf (r .path)))) (cost c (length ls)) (omega arith) (omega arith);
       }
+
+  -- The best of the labels that arrive and are fewer than E is the best of all that arrive, whatever their number.
+  pub best-few :
+      Closed g → (x : s .State) → Valid x → (c : Cost) (ls : List ℕ) → Best (Few (g .nodes) (Arrives g s x)) c ls
+      → Best (Arrives g s x) c ls
+  best-few closed x ok c ls b = best-short (Arrives g s x) (g .nodes) (arrives-short closed x ok) c ls b

@@ -7,6 +7,7 @@ pub mod Distance
 pub mod Least
 -- Routes:
 pub mod Labels
+pub mod Better
 pub mod System
 pub mod Route
 pub mod Start

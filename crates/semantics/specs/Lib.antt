@@ -4,8 +4,8 @@ pub mod Automaton
 pub mod Region
 pub mod Point
 pub mod Corner
-pub mod Node
 pub mod Path
+pub mod Node
 -- Theorems:
 pub mod Regions
 pub mod Corners

@@ -7,8 +7,11 @@ pub mod Point
 pub mod Corner
 pub mod Node
 pub mod Chain
+pub mod CornerPath
+pub mod Floor
 pub mod Demand
 -- Theorems:
 pub mod Regions
 pub mod Corners
 pub mod Nodes
+pub mod Bounds

@@ -9,3 +9,13 @@ pub mod Stays
 pub mod Steps
 pub mod Shapes
 pub mod Reached
+pub mod Flow
+pub mod Paths
+pub mod Monotone
+pub mod Runs
+pub mod Sides
+pub mod Rounding
+pub mod Ticks
+pub mod Sum
+pub mod Roundings
+pub mod Lower

@@ -58,8 +58,11 @@ module _ (a : Automaton) (ok : Proper a) where
     resets-there : (x : ℕ) → List·Memᴰ x (moveAt a e .resets) → x < length (r .whole)
     resets-there x m = rw sized (resets-in a ok e x m)
 
+    pub reset-well-formed : WellFormed (resetAll (moveAt a e .resets) r)
+    reset-well-formed = resetAll-well-formed (moveAt a e .resets) r w resets-there
+
     pub moved-well-formed : WellFormed (movedBy a e r)
-    moved-well-formed = charge-well-formed _ (resetAll-well-formed (moveAt a e .resets) r w resets-there) (moveAt a e .price)
+    moved-well-formed = charge-well-formed _ reset-well-formed (moveAt a e .price)
 
     pub moved-sized : length (movedBy a e r .whole) ≡ timers a
     moved-sized = charge-timers _ (moveAt a e .price) .whole ∙ resetAll-timers (moveAt a e .resets) r .whole ∙ sized
@@ -84,7 +87,7 @@ module _ (a : Automaton) (ok : Proper a) where
         (below-lowered (suc (top r)) (a .ceilings) v v′ (zeroed-below (moveAt a e .resets) v)
         (ceilings-at a ok r w sized (suc (top r)) v _ p .0 c))
 
-  reached-begin : Reached a (begin a)
+  pub reached-begin : Reached a (begin a)
   reached-begin =
       let w = start-well-formed (timers a) (ok .some-timer) in
       let n = start-timers (timers a) .0 in

@@ -80,7 +80,7 @@ module _ (r s : PricedRegion) (e : SameShape r s) where
   unfolding within
   shape-within cs = shape-withinFrom 0 cs
 
-  shape-reset : (x : ℕ) → SameShape (reset x r) (reset x s)
+  pub shape-reset : (x : ℕ) → SameShape (reset x r) (reset x s)
   shape-reset x =
       ⊎-elim (λ a. rw (reset-alone x r a, reset-alone x s (rw (e .group) at a)) closes)
       (λ a. rw (reset-joined x r a, reset-joined x s (rw (e .group) at a)) joins)

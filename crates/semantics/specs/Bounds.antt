@@ -19,3 +19,8 @@ pub mod Ticks
 pub mod Sum
 pub mod Roundings
 pub mod Lower
+pub mod Approach
+pub mod ApproachDelay
+pub mod ApproachPass
+pub mod Upper
+pub mod Exists

@@ -31,14 +31,10 @@ inside-shape q v f r s e p = record {
   value = λ x h. rw (← e .whole, ← e .group) (p .value x (rw (e .whole) h));
 }
 
--- Group i no longer has its timers at 0, and is group i + 1; or it keeps its number.
-abbrev pub left : ℕ → (ℕ → ℕ) → ℕ → ℕ
-left d f zero = 0
-left d f (suc i) = f i + d
-
-abbrev pub later : ℕ → (ℕ → ℕ) → ℕ → ℕ
-later d f zero = 0
-later d f (suc i) = f (suc i) + d
+-- The fractions after a wait of d: 0 for r0, and for group i + 1 that of the group `was i` before, and d.
+abbrev pub later : (ℕ → ℕ) → ℕ → (ℕ → ℕ) → ℕ → ℕ
+later was d f zero = 0
+later was d f (suc i) = f (was i) + d
 
 module _ (r : PricedRegion) (w : WellFormed r) (q : ℕ) (v f : ℕ → ℕ) (p : Inside q v f r) where
   group-in : (x : ℕ) → getD (r .group) x 0 ≤ top r
@@ -83,7 +79,7 @@ module _ (r : PricedRegion) (w : WellFormed r) (q : ℕ) (v f : ℕ → ℕ) (p 
 
   module _ (d : ℕ) (v′ : ℕ → ℕ) (waited : (x : ℕ) → v′ x ≡ v x + d) where
     -- Waiting d q-ths, not 0, out of r0, while no timer comes to a whole minute.
-    pub inside-leave : (rate : ℕ) → 0 < d → f (top r) + d < q → Inside q v′ (left d f) (leave rate r)
+    pub inside-leave : (rate : ℕ) → 0 < d → f (top r) + d < q → Inside q v′ (later (λ i. i) d f) (leave rate r)
     unfolding leave
     inside-leave rate pos short = record {
       ground = refl;
@@ -92,30 +88,30 @@ module _ (r : PricedRegion) (w : WellFormed r) (q : ℕ) (v f : ℕ → ℕ) (p 
       value = λ x h. value x h;
     }
       where
-        rising : (i j : ℕ) → i < j → j ≤ suc (top r) → left d f i < left d f j
+        rising : (i j : ℕ) → i < j → j ≤ suc (top r) → later (λ i. i) d f i < later (λ i. i) d f j
         rising i zero h l = absurd (omega arith)
         rising zero (suc j) h l = omega arith
         rising (suc i) (suc j) h l = omega (arith, p .rising i j (omega arith) (omega arith))
 
-        small : (i : ℕ) → i ≤ suc (top r) → left d f i < q
+        small : (i : ℕ) → i ≤ suc (top r) → later (λ i. i) d f i < q
         small zero l = omega arith
         small (suc i) l = omega (arith, below-top i (omega arith))
 
-        value : (x : ℕ) → x < length (r .whole) → v′ x ≡ q * getD (r .whole) x 0 + left d f (getD (leave rate r .group) x 0)
+        value : (x : ℕ) → x < length (r .whole) → v′ x ≡ q * getD (r .whole) x 0 + later (λ i. i) d f (getD (leave rate r .group) x 0)
         value x h = rw (leave-group r w x h rate) (omega (arith, waited x, p .value x h))
 
     module _ (empty : count 0 (r .group) ≡ 0) where
-      later-rising : (i j : ℕ) → i < j → j ≤ top r → later d f i < later d f j
+      later-rising : (i j : ℕ) → i < j → j ≤ top r → later suc d f i < later suc d f j
       later-rising i zero h l = absurd (omega arith)
       later-rising zero (suc j) h l = omega (arith, p .rising 0 (suc j) (omega arith) l)
       later-rising (suc i) (suc j) h l = omega (arith, p .rising (suc i) (suc j) h l)
 
-      later-raised : (i : ℕ) → 0 < i → later d f i ≡ f i + d
+      later-raised : (i : ℕ) → 0 < i → later suc d f i ≡ f i + d
       later-raised zero h = absurd (omega arith)
       later-raised (suc i) h = refl
 
       -- Waiting in a region with r0 empty, while no timer comes to a whole minute.
-      pub inside-stay : f (top r) + d < q → Inside q v′ (later d f) r
+      pub inside-stay : f (top r) + d < q → Inside q v′ (later suc d f) r
       inside-stay short = record {
         ground = refl;
         rising = later-rising;
@@ -123,12 +119,12 @@ module _ (r : PricedRegion) (w : WellFormed r) (q : ℕ) (v f : ℕ → ℕ) (p 
         value = λ x h. omega (arith, waited x, p .value x h, later-raised (getD (r .group) x 0) (raised r w x h empty));
       }
         where
-          small : (i : ℕ) → i ≤ top r → later d f i < q
+          small : (i : ℕ) → i ≤ top r → later suc d f i < q
           small zero l = omega arith
           small (suc i) l = omega (arith, below-top (suc i) l)
 
       -- Waiting until the highest group comes to its whole minute.
-      pub inside-arrive : f (top r) + d ≡ q → Inside q v′ (later d f) (arrive r)
+      pub inside-arrive : f (top r) + d ≡ q → Inside q v′ (later suc d f) (arrive r)
       inside-arrive due = record {
         ground = refl;
         rising = λ i j h l. later-rising i j h (omega (arith, arrive-top r w));
@@ -136,13 +132,13 @@ module _ (r : PricedRegion) (w : WellFormed r) (q : ℕ) (v f : ℕ → ℕ) (p 
         value = λ x h. value x (omega (arith, arrive-timers r .whole)) (arrived r w x (omega (arith, arrive-timers r .whole)));
       }
         where
-          small : (i : ℕ) → i ≤ pred (top r) → later d f i < q
+          small : (i : ℕ) → i ≤ pred (top r) → later suc d f i < q
           small zero l = omega (arith, p .small 0 (omega arith))
           small (suc i) l = omega (arith, p .rising (suc i) (top r) (omega arith) (omega arith))
 
           value :
               (x : ℕ) → x < length (r .whole) → Arrived r x
-              → v′ x ≡ q * getD (arrive r .whole) x 0 + later d f (getD (arrive r .group) x 0)
+              → v′ x ≡ q * getD (arrive r .whole) x 0 + later suc d f (getD (arrive r .group) x 0)
           value x h (on e g u) = rw (g, u) (omega (arith, waited x, p .value x h, ap f e))
           value x h (off n g u) =
               rw (g, u) (omega (arith, waited x, p .value x h, later-raised (getD (r .group) x 0) (raised r w x h empty)))

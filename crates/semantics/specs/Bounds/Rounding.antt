@@ -16,7 +16,7 @@ use Rattle.semantics.specs.Chain.{Place, chain}
 use Rattle.semantics.specs.Regions.Cases.{lingered, zero-cases}
 use Rattle.semantics.specs.Regions.Lengths.{leave-timers, leave-top, arrive-timers, arrive-top}
 use Rattle.semantics.specs.Regions.WellFormed.{leave-well-formed, arrive-well-formed}
-use Rattle.semantics.specs.Bounds.Inside.{Inside, left, later, inside-shape, inside-leave, inside-stay, inside-arrive}
+use Rattle.semantics.specs.Bounds.Inside.{Inside, later, inside-shape, inside-leave, inside-stay, inside-arrive}
 use Rattle.semantics.specs.Bounds.Prices.{price, leave-price, leave-last, linger-last, arrive-price}
 use Rattle.semantics.specs.Bounds.Sides.{Sides}
 use Rattle.semantics.specs.Bounds.Stays.{mode-at, ceilings-at}
@@ -51,22 +51,22 @@ module _ (a : Automaton) (ok : Proper a) (Q l : ℕ) (v v′ : ℕ → ℕ) (wai
       corner = d .corner;
       there = d .there;
       cheap = d .cheap;
-      fraction = later 1 (d .fraction);
+      fraction = later suc 1 (d .fraction);
       inside = inside-stay (d .region) (reached .well-formed) Q v (d .fraction) (d .inside) 1 v′ waited z h;
       sides = record { down = down; up = up };
     }
       where
-        down : (i : ℕ) → i ≤ top (d .region) → i + d .corner ≤ top (d .region) → later 1 (d .fraction) i ≤ suc ψ
+        down : (i : ℕ) → i ≤ top (d .region) → i + d .corner ≤ top (d .region) → later suc 1 (d .fraction) i ≤ suc ψ
         down zero b k = omega arith
         down (suc i) b k = omega (arith, d .sides .down (suc i) b k)
 
-        up : (i : ℕ) → i ≤ top (d .region) → top (d .region) < i + d .corner → suc ψ < later 1 (d .fraction) i
+        up : (i : ℕ) → i ≤ top (d .region) → top (d .region) < i + d .corner → suc ψ < later suc 1 (d .fraction) i
         up zero b k = absurd (omega (arith, d .there))
         up (suc i) b k = omega (arith, d .sides .up (suc i) b k)
 
     -- No timer comes to a whole minute, and r0 is not empty: its timers leave it.
     module _ (z : 0 < count 0 (d .region .group)) (h : d .fraction (top (d .region)) + 1 < Q) where
-      left-inside : Inside Q v′ (left 1 (d .fraction)) (leave (modeAt a l .rate) (d .region))
+      left-inside : Inside Q v′ (later (λ i. i) 1 (d .fraction)) (leave (modeAt a l .rate) (d .region))
       left-inside =
           inside-leave (d .region) (reached .well-formed) Q v (d .fraction) (d .inside) 1 v′ waited (modeAt a l .rate) (omega arith) h
 
@@ -88,7 +88,7 @@ module _ (a : Automaton) (ok : Proper a) (Q l : ℕ) (v v′ : ℕ → ℕ) (wai
         corner = d .corner;
         there = omega (arith, left-top, d .there);
         cheap = omega (arith, d .cheap, leave-price (d .region) (reached .well-formed) (modeAt a l .rate) (d .corner) (d .there));
-        fraction = left 1 (d .fraction);
+        fraction = later (λ i. i) 1 (d .fraction);
         inside = left-inside;
         sides = record {
           down = λ i b k. down i (omega (arith, left-top)) (omega (arith, left-top));
@@ -96,11 +96,11 @@ module _ (a : Automaton) (ok : Proper a) (Q l : ℕ) (v v′ : ℕ → ℕ) (wai
         };
       }
         where
-          down : (i : ℕ) → i ≤ suc (top (d .region)) → i + d .corner ≤ suc (top (d .region)) → left 1 (d .fraction) i ≤ suc ψ
+          down : (i : ℕ) → i ≤ suc (top (d .region)) → i + d .corner ≤ suc (top (d .region)) → later (λ i. i) 1 (d .fraction) i ≤ suc ψ
           down zero b k = omega arith
           down (suc i) b k = omega (arith, d .sides .down i (omega arith) (omega arith))
 
-          up : (i : ℕ) → i ≤ suc (top (d .region)) → suc (top (d .region)) < i + d .corner → suc ψ < left 1 (d .fraction) i
+          up : (i : ℕ) → i ≤ suc (top (d .region)) → suc (top (d .region)) < i + d .corner → suc ψ < later (λ i. i) 1 (d .fraction) i
           up zero b k = absurd (omega (arith, d .there))
           up (suc i) b k = omega (arith, d .sides .up i (omega arith) (omega arith))
 
@@ -113,16 +113,16 @@ module _ (a : Automaton) (ok : Proper a) (Q l : ℕ) (v v′ : ℕ → ℕ) (wai
         corner = suc (top (d .region));
         there = omega (arith, left-top);
         cheap = omega (arith, d .cheap, leave-last (d .region) (reached .well-formed) (modeAt a l .rate), ap (price (d .region)) c);
-        fraction = left 1 (d .fraction);
+        fraction = later (λ i. i) 1 (d .fraction);
         inside = left-inside;
         sides = record { down = λ i b k. down i (omega (arith, left-top)); up = λ i b k. up i (omega (arith, left-top)) };
       }
         where
-          down : (i : ℕ) → i + suc (top (d .region)) ≤ suc (top (d .region)) → left 1 (d .fraction) i ≤ 0
+          down : (i : ℕ) → i + suc (top (d .region)) ≤ suc (top (d .region)) → later (λ i. i) 1 (d .fraction) i ≤ 0
           down zero k = omega arith
           down (suc i) k = absurd (omega arith)
 
-          up : (i : ℕ) → suc (top (d .region)) < i + suc (top (d .region)) → 0 < left 1 (d .fraction) i
+          up : (i : ℕ) → suc (top (d .region)) < i + suc (top (d .region)) → 0 < later (λ i. i) 1 (d .fraction) i
           up zero k = absurd (omega arith)
           up (suc i) k = omega arith
 
@@ -136,7 +136,7 @@ module _ (a : Automaton) (ok : Proper a) (Q l : ℕ) (v v′ : ℕ → ℕ) (wai
       corner = top (d .region);
       there = omega (arith, same-top);
       cheap = omega (arith, d .cheap, linger-last (d .region) (reached .well-formed) (modeAt a l .rate), ap (price (d .region)) c);
-      fraction = later 1 (d .fraction);
+      fraction = later suc 1 (d .fraction);
       inside =
           inside-shape Q v′ _ _ _ (shape-linger (modeAt a l .rate) (d .region))
           (inside-stay (d .region) (reached .well-formed) Q v (d .fraction) (d .inside) 1 v′ waited z h);
@@ -146,11 +146,11 @@ module _ (a : Automaton) (ok : Proper a) (Q l : ℕ) (v v′ : ℕ → ℕ) (wai
         same-top : top (d .region) ≡ top (lingered (modeAt a l .rate) (d .region))
         same-top = shape-top _ _ (shape-linger (modeAt a l .rate) (d .region))
 
-        down : (i : ℕ) → i + top (d .region) ≤ top (d .region) → later 1 (d .fraction) i ≤ 0
+        down : (i : ℕ) → i + top (d .region) ≤ top (d .region) → later suc 1 (d .fraction) i ≤ 0
         down zero k = omega arith
         down (suc i) k = absurd (omega arith)
 
-        up : (i : ℕ) → top (d .region) < i + top (d .region) → 0 < later 1 (d .fraction) i
+        up : (i : ℕ) → top (d .region) < i + top (d .region) → 0 < later suc 1 (d .fraction) i
         up zero k = absurd (omega arith)
         up (suc i) k = omega arith
 
@@ -165,7 +165,7 @@ module _ (a : Automaton) (ok : Proper a) (Q l : ℕ) (v v′ : ℕ → ℕ) (wai
       corner = pred (d .corner);
       there = (let c : pred (d .corner) ≤ top (arrive (d .region)) = omega (arith, d .there, low-top) in c);
       cheap = omega (arith, d .cheap, arrive-price (d .region) (pred (d .corner)), ap (price (d .region)) one);
-      fraction = later 1 (d .fraction);
+      fraction = later suc 1 (d .fraction);
       inside = p;
       sides = record { down = λ i b k. down i (omega (arith, low-top)) (omega (arith, low-top)); up = λ i b k. up i (omega (arith, low-top)) (omega (arith, low-top)) };
     }
@@ -176,7 +176,7 @@ module _ (a : Automaton) (ok : Proper a) (Q l : ℕ) (v v′ : ℕ → ℕ) (wai
         n : length (arrive (d .region) .whole) ≡ timers a
         n = arrive-timers (d .region) .whole ∙ reached .sized
 
-        p : Inside Q v′ (later 1 (d .fraction)) (arrive (d .region))
+        p : Inside Q v′ (later suc 1 (d .fraction)) (arrive (d .region))
         p = inside-arrive (d .region) (reached .well-formed) Q v (d .fraction) (d .inside) 1 v′ waited z h
 
         low-top : top (arrive (d .region)) ≡ pred (top (d .region))
@@ -193,11 +193,11 @@ module _ (a : Automaton) (ok : Proper a) (Q l : ℕ) (v v′ : ℕ → ℕ) (wai
         one : suc (pred (d .corner)) ≡ d .corner
         one = omega (arith, pos)
 
-        down : (i : ℕ) → i ≤ pred (top (d .region)) → i + pred (d .corner) ≤ pred (top (d .region)) → later 1 (d .fraction) i ≤ suc ψ
+        down : (i : ℕ) → i ≤ pred (top (d .region)) → i + pred (d .corner) ≤ pred (top (d .region)) → later suc 1 (d .fraction) i ≤ suc ψ
         down zero b k = omega arith
         down (suc i) b k = omega (arith, d .sides .down (suc i) (omega arith) (omega (arith, pos)))
 
-        up : (i : ℕ) → i ≤ pred (top (d .region)) → pred (top (d .region)) < i + pred (d .corner) → suc ψ < later 1 (d .fraction) i
+        up : (i : ℕ) → i ≤ pred (top (d .region)) → pred (top (d .region)) < i + pred (d .corner) → suc ψ < later suc 1 (d .fraction) i
         up zero b k = absurd (omega (arith, d .there))
         up (suc i) b k = omega (arith, d .sides .up (suc i) (omega arith) (omega (arith, pos)))
 

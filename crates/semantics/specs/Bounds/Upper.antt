@@ -1,0 +1,155 @@
+-- The upper bound: each corner of a chain is approached by runs that make exactly the chain's moves, so that for every m some such run is
+-- charged less than the corner's price and 1/m.
+-- Assumes nothing.
+use mathlib.Core.Path.{_≡_, refl, ap, _∙_, sym, subst, subst₂}
+use mathlib.Core.Bool.{Bool, true, false, cond}
+use mathlib.Core.List.{List, [], _∷_, _++_, append-nil, append-assoc, List·Memᴰ·eq-of-singleton}
+use mathlib.Core.Option.{some, Option·some-injective}
+use Prim.Native.Nat.{ℕ, zero, suc, min, _+_, _*_, _<_, _≤_}
+use native.Mathlib.Nat.{mul-le-mul-left}
+use native.Mathlib.Decide.{ℕ-discrete, decLe}
+use native.Mathlib.Omega.{arith}
+use borrow.Author.Tests.{lt-ltb}
+use lib.Dec.{ltb}
+use lib.ListN.{length, getD}
+use Rattle.semantics.specs.Automaton.{Automaton, timers, modeAt, moveAt, Proper}
+use Rattle.semantics.specs.Region.{PricedRegion, WellFormed, count, top, start, leave, arrive, meetsAll, within}
+use Rattle.semantics.specs.Run.{RunInto, charge}
+use Rattle.semantics.specs.Chain.{Place, follow, begin, chain, movesOf}
+use Rattle.semantics.specs.CornerPath.{Edge}
+use Rattle.semantics.specs.Demand.{Near, Approached}
+use Rattle.semantics.specs.Regions.Cases.{lingered}
+use Rattle.semantics.specs.Regions.Groups.{top-pos}
+use Rattle.semantics.specs.Regions.Lengths.{prices-top, leave-top, arrive-top}
+use Rattle.semantics.specs.Bounds.Prices.{price, leave-price, leave-last, linger-price, linger-last, arrive-price}
+use Rattle.semantics.specs.Bounds.Steps.{rateAt, movedBy, Stepped, leaves, arrives, lingers, idles, moves, step-view, follow-first}
+use Rattle.semantics.specs.Bounds.Shapes.{shape-top, shape-linger}
+use Rattle.semantics.specs.Bounds.Reached.{Reached, reached-begin, reached-step}
+use Rattle.semantics.specs.Bounds.Flow.{move-flow}
+use Rattle.semantics.specs.Bounds.Runs.{made-run}
+use Rattle.semantics.specs.Bounds.Approach.{ApproachAt, Approach, approach-start, approach-shape, approach-move}
+use Rattle.semantics.specs.Bounds.ApproachDelay.{approach-leave, approach-arrive}
+use Rattle.semantics.specs.Bounds.ApproachPass.{approach-jump, approach-linger}
+
+-- Every corner of the place is approached by runs of these moves.
+abbrev Approaches : Automaton → List ℕ → Place → Type 0
+Approaches a made p = (i : ℕ) → i ≤ top (p .region) → Approach a made (p .mode) (p .region) i (price (p .region) i)
+
+approach-cast :
+    {a : Automaton} {made : List ℕ} {l : ℕ} {r : PricedRegion} {j j′ w w′ : ℕ} → j ≡ j′ → w ≡ w′ → Approach a made l r j w → Approach a made l r j′ w′
+approach-cast {a} {made} {l} {r} e f n = subst₂ (λ (j w : ℕ). Approach a made l r j w) e f n
+
+module _ (a : Automaton) (ok : Proper a) (made : List ℕ) (l : ℕ) (r : PricedRegion) (wf : WellFormed r) (sized : length (r .whole) ≡ timers a)
+    (n : Approaches a made (record { mode = l; region = r })) where
+  -- Delay out of r0.
+  leave-approaches :
+      0 < count 0 (r .group) → meetsAll (modeAt a l .conditions) (leave (modeAt a l .rate) r) ≡ true
+      → within (a .ceilings) (leave (modeAt a l .rate) r) ≡ true → Approaches a made (record { mode = l; region = leave (modeAt a l .rate) r })
+  leave-approaches z m c i b = go (ℕ-discrete i (suc (top r)))
+    where
+      k : top (leave (modeAt a l .rate) r) ≡ suc (top r)
+      k = leave-top r wf (modeAt a l .rate)
+
+      go : Dec (i ≡ suc (top r)) → Approach a made l (leave (modeAt a l .rate) r) i (price (leave (modeAt a l .rate) r) i)
+      go (yes e) =
+          approach-cast (k ∙ sym e) (sym (ap (price (leave (modeAt a l .rate) r)) e ∙ leave-last r wf (modeAt a l .rate)))
+          (approach-jump a ok made l r wf sized (price r 0) z m c (n 0 (omega arith)))
+      go (no f) =
+          let d : i ≤ top r = omega (arith, k) in
+          approach-cast refl (sym (leave-price r wf (modeAt a l .rate) i d)) (approach-leave a ok made l r wf sized z m c i (price r i) (n i d))
+
+  -- Delay where r0 is empty.
+  arrive-approaches :
+      count 0 (r .group) ≡ 0 → meetsAll (modeAt a l .conditions) (arrive r) ≡ true → within (a .ceilings) (arrive r) ≡ true
+      → Approaches a made (record { mode = l; region = arrive r })
+  arrive-approaches z m c i b =
+      let d : suc i ≤ top r = omega (arith, arrive-top r wf, top-pos r wf z) in
+      approach-cast refl (sym (arrive-price r i)) (approach-arrive a ok made l r wf sized z m c i (price r (suc i)) d (n (suc i) d))
+
+  -- Linger where r0 is empty.
+  linger-approaches :
+      count 0 (r .group) ≡ 0 → meetsAll (modeAt a l .conditions) r ≡ true → within (a .ceilings) r ≡ true
+      → Approaches a made (record { mode = l; region = lingered (modeAt a l .rate) r })
+  linger-approaches z m c i b =
+      approach-shape a ok made l r (lingered (modeAt a l .rate) r) i _ (shape-linger (modeAt a l .rate) r)
+      (go (ℕ-discrete i (top r)) (decLe (price r (top r)) (price r 0 + modeAt a l .rate)))
+    where
+      there : i ≤ top r
+      there = omega (arith, shape-top _ _ (shape-linger (modeAt a l .rate) r))
+
+      last : price (lingered (modeAt a l .rate) r) (top r) ≡ min (price r (top r)) (price r 0 + modeAt a l .rate)
+      last = linger-last r wf (modeAt a l .rate)
+
+      go : Dec (i ≡ top r) → Dec (price r (top r) ≤ price r 0 + modeAt a l .rate) → Approach a made l r i (price (lingered (modeAt a l .rate) r) i)
+      go (no f) d = approach-cast refl (sym (linger-price r wf (modeAt a l .rate) i f)) (n i there)
+      go (yes e) (yes d) = rw e (approach-cast refl (omega (arith, last)) (n (top r) (omega arith)))
+      go (yes e) (no d) = rw e (approach-cast refl (omega (arith, last)) (approach-linger a ok made l r wf sized (price r 0) z m c (n 0 (omega arith))))
+
+  -- A move.
+  move-approaches :
+      (e : ℕ) → e < length (a .moves) → moveAt a e .source ≡ l → meetsAll (moveAt a e .conditions) r ≡ true
+      → meetsAll (modeAt a (moveAt a e .target) .conditions) (movedBy a e r) ≡ true
+      → Approaches a (made ++ e ∷ []) (record { mode = moveAt a e .target; region = movedBy a e r })
+  move-approaches e j o g m i b =
+      let c = move-flow a ok e r wf sized .attained i b in
+      let d = List·Memᴰ·eq-of-singleton (c .listed) in
+      approach-cast (sym (ap (λ (u : Edge). u .corner) d) ∙ c .leads) (sym (c .sum ∙ ap (λ (u : Edge). price r (c .from) + u .weight) d))
+      (approach-move a ok made l e r wf sized (c .from) (price r (c .from)) j o g m (n (c .from) (c .there)))
+
+movesOf-cons : (byte : ℕ) (bytes : List ℕ) → movesOf (byte ∷ bytes) ≡ movesOf (byte ∷ []) ++ movesOf bytes
+unfolding movesOf
+movesOf-cons byte bytes = go (ltb byte 64)
+  where
+    go : (b : Bool) → cond b (byte ∷ movesOf bytes) (movesOf bytes) ≡ cond b (byte ∷ []) [] ++ movesOf bytes
+    go true = refl
+    go false = refl
+
+module _ (a : Automaton) (ok : Proper a) where
+  step-approaches :
+      (byte : ℕ) (p p′ : Place) (made : List ℕ) → Reached a p → Stepped a p byte p′ → Approaches a made p
+      → Approaches a (made ++ movesOf (byte ∷ [])) p′
+  unfolding movesOf
+  step-approaches byte p p′ made h (leaves z m c) n = rw (append-nil made) (leave-approaches a ok made (p .mode) (p .region) (h .well-formed) (h .sized) n z m c)
+  step-approaches byte p p′ made h (arrives z m c) n = rw (append-nil made) (arrive-approaches a ok made (p .mode) (p .region) (h .well-formed) (h .sized) n z m c)
+  step-approaches byte p p′ made h (lingers z) n = rw (append-nil made) (linger-approaches a ok made (p .mode) (p .region) (h .well-formed) (h .sized) n z (h .meets) (h .ceilings))
+  step-approaches byte p p′ made h (idles z) n = rw (append-nil made) n
+  step-approaches byte p p′ made h (moves e b i o g m) n =
+      rw (lt-ltb e 64 b) (move-approaches a ok made (p .mode) (p .region) (h .well-formed) (h .sized) n e i o g m)
+
+  follow-approaches :
+      (bytes : List ℕ) (p p′ : Place) (made : List ℕ) → Reached a p → follow a bytes p ≡ some p′ → Approaches a made p
+      → Approaches a (made ++ movesOf bytes) p′
+  unfolding follow movesOf
+  follow-approaches [] p p′ made h f n = subst (Approaches a (made ++ [])) (Option·some-injective p p′ f) (rw (append-nil made) n)
+  follow-approaches (byte ∷ bytes) p p′ made h f n =
+      let s = follow-first a byte bytes p p′ f in
+      let v = step-view a p (s .0) byte (s .1) in
+      subst (λ (es : List ℕ). Approaches a es p′) (append-assoc made (movesOf (byte ∷ [])) (movesOf bytes) ∙ ap (λ (es : List ℕ). made ++ es) (sym (movesOf-cons byte bytes)))
+      (follow-approaches bytes (s .0) p′ (made ++ movesOf (byte ∷ [])) (reached-step a ok byte p (s .0) h v) (s .2) (step-approaches byte p (s .0) made h v n))
+
+  -- Every corner of a chain is approached by runs of its moves.
+  pub chain-approaches : (bytes : List ℕ) (p : Place) → chain a bytes ≡ some p → Approaches a (movesOf bytes) p
+  unfolding chain start
+  chain-approaches bytes p f =
+      follow-approaches bytes (begin a) p [] (reached-begin a ok) f
+      (λ i b. let e : 0 ≡ i = omega arith in approach-cast e (ap (price (start (timers a))) e) (approach-start a ok))
+
+  -- At scale 1, with q large enough: "some such run, making exactly the route's moves in their order, is charged less than C + 1/m".
+  approach-near : (made : List ℕ) (l : ℕ) (r : PricedRegion) (j w : ℕ) → Approach a made l r j w → Approached a l made w
+  approach-near made l r j w n m h =
+      let q = n .limit + m * n .extra + 1 in
+      let u = n .runs 1 q (omega arith) (omega arith) in
+      let b : u .S ≤ q * w + n .extra = omega (arith, u .charged) in
+      record {
+        q = q;
+        acts = u .made .acts;
+        run = made-run a q l (u .v) (u .S) made (u .made) (omega arith);
+        moves-made = u .made .moves-made;
+        charged = rw (u .made .charged) (omega (arith, mul-le-mul-left m b));
+      }
+
+  pub upper :
+      (bytes : List ℕ) (p : Place) (l : ℕ) → chain a bytes ≡ some p → p .mode ≡ l → (j : ℕ) → j < length (p .region .prices)
+      → Approached a l (movesOf bytes) (getD (p .region .prices) j 0)
+  upper bytes p l f e j b =
+      rw (← e) (approach-near (movesOf bytes) (p .mode) (p .region) j (price (p .region) j) (chain-approaches bytes p f j (omega (arith, prices-top (p .region) (omega arith)))))

@@ -16,10 +16,10 @@ use Rattle.semantics.specs.CornerPath.{resetAllCorner, SameShape}
 use Rattle.semantics.specs.Bounds.Inside.{Inside, inside-shape}
 use Rattle.semantics.specs.Bounds.Reset.{ResetTo}
 use Rattle.semantics.specs.Bounds.Sides.{Sides, sides-resets}
-use Rattle.semantics.specs.Bounds.Stays.{mode-at, move-at, ceilings-at, below-lowered, start-stays}
+use Rattle.semantics.specs.Bounds.Stays.{Admits, guard-at, stays-at}
 use Rattle.semantics.specs.Bounds.Steps.{movedBy}
 use Rattle.semantics.specs.Bounds.Shapes.{shape-top, shape-charge}
-use Rattle.semantics.specs.Bounds.Reached.{start-inside, zeroed-below, moved-to, moved-inside, moved-well-formed, moved-sized}
+use Rattle.semantics.specs.Bounds.Reached.{start-inside, moved-to, moved-inside, moved-well-formed, moved-sized}
 use Rattle.semantics.specs.Bounds.Runs.{Made, made-none, made-wait, made-move}
 
 -- A run in q-ths of these moves into mode l, near corner j of the region r: group i is σ times `offset i` from the corner.
@@ -27,7 +27,6 @@ pub record ApproachAt (a : Automaton) (moves : List ℕ) (l : ℕ) (r : PricedRe
   pub v : ℕ → ℕ
   pub S : ℕ
   pub made : Made a q l v S moves
-  pub stays : Stays a q l v
   pub fraction : ℕ → ℕ
   pub inside : Inside q v fraction r
   pub sides : Sides (top r) j (λ i. fraction i ≡ σ * offset i) (λ i. fraction i + σ * offset i ≡ q)
@@ -56,7 +55,6 @@ module _ (a : Automaton) (ok : Proper a) where
       v = λ x. 0;
       S = 0;
       made = made-none a q;
-      stays = start-stays a ok q (omega arith);
       fraction = λ i. i;
       inside = start-inside (timers a) q (omega arith);
       sides = record { down = λ i c k. low σ i (omega arith); up = λ i c k. absurd (omega arith) };
@@ -81,7 +79,6 @@ module _ (a : Automaton) (ok : Proper a) where
           v = u .v;
           S = u .S;
           made = u .made;
-          stays = u .stays;
           fraction = u .fraction;
           inside = inside-shape q (u .v) (u .fraction) r s e (u .inside);
           sides = record {
@@ -95,10 +92,10 @@ module _ (a : Automaton) (ok : Proper a) where
   -- A move.
   pub approach-move :
       (moves : List ℕ) (l e : ℕ) (r : PricedRegion) → WellFormed r → length (r .whole) ≡ timers a → (j w : ℕ) → e < length (a .moves)
-      → moveAt a e .source ≡ l → meetsAll (moveAt a e .conditions) r ≡ true
-      → meetsAll (modeAt a (moveAt a e .target) .conditions) (movedBy a e r) ≡ true → Approach a moves l r j w
+      → moveAt a e .source ≡ l → meetsAll (moveAt a e .conditions) r ≡ true → Admits a (moveAt a e .target) (movedBy a e r)
+      → Approach a moves l r j w
       → Approach a (moves ++ e ∷ []) (moveAt a e .target) (movedBy a e r) (resetAllCorner (moveAt a e .resets) r j) (w + moveAt a e .price)
-  approach-move moves l e r wf sized j w i o g m n = record {
+  approach-move moves l e r wf sized j w i o g t n = record {
     offset = λ i. n .offset (to .old i);
     limit = n .limit;
     extra = n .extra;
@@ -108,17 +105,14 @@ module _ (a : Automaton) (ok : Proper a) where
         let u = n .runs σ q h b in
         let v′ = zeroed (moveAt a e .resets) (u .v) in
         let p = moved-inside a ok e r wf sized q (u .v) (u .fraction) v′ (λ x. refl) (u .inside) in
-        let guard = move-at a ok r wf sized q (u .v) (u .fraction) (u .inside) e .0 g in
-        let target : Stays a q (moveAt a e .target) v′ = (
-          mode-at a ok (movedBy a e r) (moved-well-formed a ok e r wf sized) (moved-sized a ok e r wf sized) q v′ _ p (moveAt a e .target) .0 m,
-          below-lowered q (a .ceilings) (u .v) v′ (zeroed-below (moveAt a e .resets) (u .v)) (u .stays .1),
-        ) in
+        let guard = guard-at a ok r wf sized q (u .v) (u .fraction) (u .inside) e .0 g in
+        let target =
+        stays-at a ok (movedBy a e r) (moved-well-formed a ok e r wf sized) (moved-sized a ok e r wf sized) q v′ _ p (moveAt a e .target) .0 t in
         let s = sides-resets _ _ _ _ to j (n .there) _ _ (u .sides) in
         record {
           v = v′;
           S = u .S + q * moveAt a e .price;
           made = made-move a q l (u .v) (u .S) moves (u .made) e i o guard target;
-          stays = target;
           fraction = λ i. u .fraction (to .old i);
           inside = p;
           sides = record {
@@ -135,22 +129,19 @@ module _ (a : Automaton) (ok : Proper a) where
       same-top : top (resetAll (moveAt a e .resets) r) ≡ top (movedBy a e r)
       same-top = shape-top _ _ (shape-charge (moveAt a e .price) (resetAll (moveAt a e .resets) r))
 
--- A run near a corner of r waits d, and is then near a corner of s, whose conditions allow it.
+-- A run near a corner of r waits d, and is then near a corner of s, which its mode admits.
 pub approach-wait :
-    (a : Automaton) → Proper a → (moves : List ℕ) (l : ℕ) (s : PricedRegion) → WellFormed s → length (s .whole) ≡ timers a
-    → meetsAll (modeAt a l .conditions) s ≡ true → within (a .ceilings) s ≡ true → {r : PricedRegion} {j w : ℕ} {o : ℕ → ℕ} {x σ q : ℕ}
-    (u : ApproachAt a moves l r j w o x σ q) (d : ℕ) (f : ℕ → ℕ) → Inside q (λ y. u .v y + d) f s → (j′ w′ : ℕ) (o′ : ℕ → ℕ) (x′ σ′ : ℕ)
+    (a : Automaton) → Proper a → (moves : List ℕ) (l : ℕ) (s : PricedRegion) → WellFormed s → length (s .whole) ≡ timers a → Admits a l s
+    → {r : PricedRegion} {j w : ℕ} {o : ℕ → ℕ} {x σ q : ℕ} (u : ApproachAt a moves l r j w o x σ q) (d : ℕ) (f : ℕ → ℕ)
+    → Inside q (λ y. u .v y + d) f s → (j′ w′ : ℕ) (o′ : ℕ → ℕ) (x′ σ′ : ℕ)
     → Sides (top s) j′ (λ i. f i ≡ σ′ * o′ i) (λ i. f i + σ′ * o′ i ≡ q) → u .S + d * modeAt a l .rate ≤ q * w′ + σ′ * x′
     → ApproachAt a moves l s j′ w′ o′ x′ σ′ q
-approach-wait a ok moves l s ws n m c {q = q} u d f p j′ w′ o′ x′ σ′ sides charged =
-    let stays : Stays a q l (λ y. u .v y + d) = (mode-at a ok s ws n q _ f p l .0 m, ceilings-at a ok s ws n q _ f p .0 c) in
-    record {
-      v = λ y. u .v y + d;
-      S = u .S + d * modeAt a l .rate;
-      made = made-wait a q l (u .v) (u .S) moves (u .made) d stays;
-      stays = stays;
-      fraction = f;
-      inside = p;
-      sides = sides;
-      charged = charged;
-    }
+approach-wait a ok moves l s ws n t {q = q} u d f p j′ w′ o′ x′ σ′ sides charged = record {
+  v = λ y. u .v y + d;
+  S = u .S + d * modeAt a l .rate;
+  made = made-wait a q l (u .v) (u .S) moves (u .made) d (stays-at a ok s ws n q _ f p l .0 t);
+  fraction = f;
+  inside = p;
+  sides = sides;
+  charged = charged;
+}

@@ -17,6 +17,7 @@ use Rattle.semantics.specs.Run.{Stays}
 use Rattle.semantics.specs.Regions.Lengths.{leave-timers, leave-top, arrive-timers, arrive-top}
 use Rattle.semantics.specs.Regions.WellFormed.{leave-well-formed, arrive-well-formed}
 use Rattle.semantics.specs.Bounds.Inside.{Inside, later, inside-leave, inside-arrive}
+use Rattle.semantics.specs.Bounds.Stays.{Admits}
 use Rattle.semantics.specs.Bounds.Approach.{ApproachAt, Approach, approach-wait}
 
 -- The offset of a group, by whether it is up at corner j of a region with groups 0 to k.
@@ -48,14 +49,13 @@ arriveOffset k j o (suc i) = bySide k (suc j) (suc i) (o (suc i) + o k) (o (suc 
 
 module _ (a : Automaton) (ok : Proper a) (moves : List ℕ) (l : ℕ) (r : PricedRegion) (wf : WellFormed r) (sized : length (r .whole) ≡ timers a) where
   -- Delay out of r0, the corner stays: a run at twice the scale waits σ.
-  module _ (z : 0 < count 0 (r .group)) (m : meetsAll (modeAt a l .conditions) (leave (modeAt a l .rate) r) ≡ true)
-      (c : within (a .ceilings) (leave (modeAt a l .rate) r) ≡ true) where
+  module _ (z : 0 < count 0 (r .group)) (t : Admits a l (leave (modeAt a l .rate) r)) where
     leave-run :
         (j w : ℕ) (o : ℕ → ℕ) (M x σ q : ℕ) → j ≤ top r → ((i : ℕ) → i ≤ top r → o i < M) → 0 < σ → σ * (2 * M) ≤ q → ApproachAt a moves l r j w o x (2 * σ) q
         → ApproachAt a moves l (leave (modeAt a l .rate) r) j w (leaveOffset (top r) j o) (2 * x + modeAt a l .rate) σ q
     leave-run j w o M x σ q there bound pos large u =
         approach-wait a ok moves l (leave (modeAt a l .rate) r) (leave-well-formed r wf (modeAt a l .rate) z)
-        (leave-timers r (modeAt a l .rate) .whole ∙ sized) m c u σ (later (λ i. i) σ (u .fraction))
+        (leave-timers r (modeAt a l .rate) .whole ∙ sized) t u σ (later (λ i. i) σ (u .fraction))
         (inside-leave r wf q (u .v) (u .fraction) (u .inside) σ _ (λ x. refl) (modeAt a l .rate) pos short) j w (leaveOffset (top r) j o)
         (2 * x + modeAt a l .rate) σ
         (record {
@@ -109,12 +109,12 @@ module _ (a : Automaton) (ok : Proper a) (moves : List ℕ) (l : ℕ) (r : Price
             side-below (top r) j i _ _ _ (omega (arith, n .bound i (omega arith))) p
 
   -- Delay where r0 is empty: the run waits until the highest group is on its minute.
-  module _ (z : count 0 (r .group) ≡ 0) (m : meetsAll (modeAt a l .conditions) (arrive r) ≡ true) (c : within (a .ceilings) (arrive r) ≡ true) where
+  module _ (z : count 0 (r .group) ≡ 0) (t : Admits a l (arrive r)) where
     arrive-run :
         (j w : ℕ) (o : ℕ → ℕ) (x σ q : ℕ) → suc j ≤ top r → ApproachAt a moves l r (suc j) w o x σ q
         → ApproachAt a moves l (arrive r) j w (arriveOffset (top r) j o) (x + o (top r) * modeAt a l .rate) σ q
     arrive-run j w o x σ q there u =
-        approach-wait a ok moves l (arrive r) (arrive-well-formed r wf z) (arrive-timers r .whole ∙ sized) m c u (σ * o (top r)) (later suc (σ * o (top r)) (u .fraction))
+        approach-wait a ok moves l (arrive r) (arrive-well-formed r wf z) (arrive-timers r .whole ∙ sized) t u (σ * o (top r)) (later suc (σ * o (top r)) (u .fraction))
         (inside-arrive r wf q (u .v) (u .fraction) (u .inside) (σ * o (top r)) _ (λ x. refl) z (u .sides .up (top r) (omega arith) (omega arith)))
         j w (arriveOffset (top r) j o) (x + o (top r) * modeAt a l .rate) σ
         (record {

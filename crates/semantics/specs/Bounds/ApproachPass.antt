@@ -14,6 +14,7 @@ use Rattle.semantics.specs.Regions.Lengths.{leave-timers, leave-top}
 use Rattle.semantics.specs.Regions.WellFormed.{leave-well-formed}
 use Rattle.semantics.specs.Bounds.Inside.{Inside, later, inside-leave, inside-stay}
 use Rattle.semantics.specs.Bounds.Sides.{Sides}
+use Rattle.semantics.specs.Bounds.Stays.{Admits}
 use Rattle.semantics.specs.Bounds.Approach.{ApproachAt, Approach, approach-wait}
 
 -- The offsets at the last corner: what is left of the limit.
@@ -23,14 +24,13 @@ passOffset was M o (suc i) = M - o (was i)
 
 -- A wait in r leads to s, where group i + 1 is what was group `was i`.
 module _ (a : Automaton) (ok : Proper a) (moves : List ℕ) (l : ℕ) (r s : PricedRegion) (ws : WellFormed s) (sized : length (s .whole) ≡ timers a)
-    (m : meetsAll (modeAt a l .conditions) s ≡ true) (c : within (a .ceilings) s ≡ true) (was : ℕ → ℕ)
-    (was-in : (i : ℕ) → suc i ≤ top s → was i ≤ top r)
+    (t : Admits a l s) (was : ℕ → ℕ) (was-in : (i : ℕ) → suc i ≤ top s → was i ≤ top r)
     (waits : (q d : ℕ) (v f : ℕ → ℕ) → Inside q v f r → 0 < d → f (top r) + d < q → Inside q (λ x. v x + d) (later was d f) s) where
   pass-run :
       (w : ℕ) (o : ℕ → ℕ) (M x σ q : ℕ) → ((i : ℕ) → i ≤ top r → o i < M) → 0 < σ → σ * (M + 1) ≤ q → ApproachAt a moves l r 0 w o x σ q
       → ApproachAt a moves l s (top s) (w + modeAt a l .rate) (passOffset was M o) x σ q
   pass-run w o M x σ q bound pos large u =
-      approach-wait a ok moves l s ws sized m c u (q - σ * M) (later was (q - σ * M) (u .fraction))
+      approach-wait a ok moves l s ws sized t u (q - σ * M) (later was (q - σ * M) (u .fraction))
       (waits q (q - σ * M) (u .v) (u .fraction) (u .inside) (omega arith) short) (top s) (w + modeAt a l .rate) (passOffset was M o) x σ
       (record { down = down; up = up }) (omega (arith, u .charged, mul-le-mul-right (modeAt a l .rate) less))
     where
@@ -73,17 +73,16 @@ module _ (a : Automaton) (ok : Proper a) (moves : List ℕ) (l : ℕ) (r : Price
     (w : ℕ) where
   -- Delay out of r0.
   pub approach-jump :
-      0 < count 0 (r .group) → meetsAll (modeAt a l .conditions) (leave (modeAt a l .rate) r) ≡ true
-      → within (a .ceilings) (leave (modeAt a l .rate) r) ≡ true → Approach a moves l r 0 w
+      0 < count 0 (r .group) → Admits a l (leave (modeAt a l .rate) r) → Approach a moves l r 0 w
       → Approach a moves l (leave (modeAt a l .rate) r) (top (leave (modeAt a l .rate) r)) (w + modeAt a l .rate)
-  approach-jump z m c =
+  approach-jump z t =
       approach-pass a ok moves l r (leave (modeAt a l .rate) r) (leave-well-formed r wf (modeAt a l .rate) z)
-      (leave-timers r (modeAt a l .rate) .whole ∙ sized) m c (λ i. i) (λ i b. omega (arith, leave-top r wf (modeAt a l .rate)))
+      (leave-timers r (modeAt a l .rate) .whole ∙ sized) t (λ i. i) (λ i b. omega (arith, leave-top r wf (modeAt a l .rate)))
       (λ q d v f p pos short. inside-leave r wf q v f p d _ (λ x. refl) (modeAt a l .rate) pos short) w
 
   -- Linger where r0 is empty.
   pub approach-linger :
-      count 0 (r .group) ≡ 0 → meetsAll (modeAt a l .conditions) r ≡ true → within (a .ceilings) r ≡ true → Approach a moves l r 0 w
+      count 0 (r .group) ≡ 0 → Admits a l r → Approach a moves l r 0 w
       → Approach a moves l r (top r) (w + modeAt a l .rate)
-  approach-linger z m c =
-      approach-pass a ok moves l r r wf sized m c suc (λ i b. b) (λ q d v f p pos short. inside-stay r wf q v f p d _ (λ x. refl) z short) w
+  approach-linger z t =
+      approach-pass a ok moves l r r wf sized t suc (λ i b. b) (λ q d v f p pos short. inside-stay r wf q v f p d _ (λ x. refl) z short) w

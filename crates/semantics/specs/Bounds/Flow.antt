@@ -202,8 +202,8 @@ module _ (a : Automaton) (ok : Proper a) (p : Place) (h : Reached a p) where
 
   pub step-flow : {byte : ℕ} {p′ : Place} → Stepped a p byte p′ → Flow (p .region) (p′ .region) (edges a byte p)
   unfolding edges
-  step-flow (leaves z m c) = by-edges _ 64 _ (λ j. rw (ne-eqb (count 0 (p .region .group)) 0 (λ e. omega arith))) (leave-flow (p .region) (h .well-formed) (rateAt a p))
-  step-flow (arrives z m c) = by-edges _ 64 _ (λ j. rw (eq-eqb (count 0 (p .region .group)) 0 z)) (arrive-flow (p .region) (h .well-formed) z)
+  step-flow (leaves z t) = by-edges _ 64 _ (λ j. rw (ne-eqb (count 0 (p .region .group)) 0 (λ e. omega arith))) (leave-flow (p .region) (h .well-formed) (rateAt a p))
+  step-flow (arrives z t) = by-edges _ 64 _ (λ j. rw (eq-eqb (count 0 (p .region .group)) 0 z)) (arrive-flow (p .region) (h .well-formed) z)
   step-flow (lingers z) = linger-flow (p .region) (h .well-formed) (rateAt a p) z
   step-flow (idles z) = idle-flow (p .region) (h .well-formed) (rateAt a p) z
   step-flow (moves e b i o g m) = by-edges _ e _ (λ j. rw (lt-ltb e 64 b)) (move-flow a ok e (p .region) (h .well-formed) (h .sized))

@@ -14,7 +14,7 @@ use Rattle.semantics.specs.Chain.{Place, step, follow}
 use Rattle.semantics.specs.CornerPath.{Edge, leaveEdges, delayEdges, lingerEdges, resetCorner, resetAllCorner, moveEdges, edges, SameShape, SamePlace}
 use Rattle.semantics.specs.Bounds.Prices.{price}
 use Rattle.semantics.specs.Bounds.Steps.{Stepped, step-view, view-step, follow-first}
-use Rattle.semantics.specs.Bounds.Shapes.{shape-sym, shape-top, shape-reset, shape-meetsAll, shape-within, StepsAlike, step-alike, follow-alike}
+use Rattle.semantics.specs.Bounds.Shapes.{shape-sym, shape-top, shape-reset, shape-admits, StepsAlike, step-alike, follow-alike}
 use Rattle.semantics.specs.Bounds.Reached.{Reached, reached-step}
 use Rattle.semantics.specs.Bounds.Flow.{Flow, step-flow}
 
@@ -58,8 +58,7 @@ module _ (a : Automaton) where
     well-formed = shape-well-formed (p .region) (s .region) (e .region) (h .well-formed);
     sized = rw (← e .region .whole) (h .sized);
     in-modes = rw (← e .mode) (h .in-modes);
-    meets = rw (← e .mode) (sym (shape-meetsAll _ _ (e .region) (modeAt a (p .mode) .conditions)) ∙ h .meets);
-    ceilings = sym (shape-within _ _ (e .region) (a .ceilings)) ∙ h .ceilings;
+    admits = rw (← e .mode) (shape-admits _ _ (e .region) a (p .mode) (h .admits));
   }
 
   -- Every price of p and B is at most that price of s and C.

@@ -11,7 +11,7 @@ use native.Mathlib.Omega.{arith}
 use lib.ListN.{length, getD}
 use Rattle.semantics.specs.Automaton.{Move, Automaton, timers, modeAt, moveAt, Proper}
 use Rattle.semantics.specs.Region.{PricedRegion, WellFormed, top, start, leave, arrive, resetAll, charge, meetsAll, within}
-use Rattle.semantics.specs.Run.{among, zeroed}
+use Rattle.semantics.specs.Run.{among, zeroed, BelowCeilings}
 use Rattle.semantics.specs.Chain.{Place, follow, begin, chain}
 use Rattle.semantics.specs.CornerPath.{SameShape, resetAllCorner}
 use Rattle.semantics.specs.Regions.Lists.{replicate-zero}
@@ -23,16 +23,15 @@ use Rattle.semantics.specs.Corners.Lists.{mem-getD}
 use Rattle.semantics.specs.Bounds.Inside.{Inside, inside-own, inside-shape}
 use Rattle.semantics.specs.Bounds.Reset.{ResetTo}
 use Rattle.semantics.specs.Bounds.Resets.{resets-to, inside-resets}
-use Rattle.semantics.specs.Bounds.Stays.{mode-at, ceilings-at, resets-in, below-lowered, start-stays}
+use Rattle.semantics.specs.Bounds.Stays.{Admits, resets-in, ceilings-at, stays-at, start-stays}
 use Rattle.semantics.specs.Bounds.Steps.{rateAt, movedBy, Stepped, leaves, arrives, lingers, idles, moves, follow-keeps}
-use Rattle.semantics.specs.Bounds.Shapes.{shape-linger, shape-charge, shape-meetsAll, shape-within}
+use Rattle.semantics.specs.Bounds.Shapes.{shape-linger, shape-charge, shape-admits}
 
 pub record Reached (a : Automaton) (p : Place) : Type 0 where
   pub well-formed : WellFormed (p .region)
   pub sized : length (p .region .whole) ≡ timers a
   pub in-modes : p .mode < length (a .modes)
-  pub meets : meetsAll (modeAt a (p .mode) .conditions) (p .region) ≡ true
-  pub ceilings : within (a .ceilings) (p .region) ≡ true
+  pub admits : Admits a (p .mode) (p .region)
 
 -- The one point of the start region.
 pub start-inside : (n q : ℕ) → 0 < q → Inside q (λ x. 0) (λ i. i) (start n)
@@ -78,14 +77,26 @@ module _ (a : Automaton) (ok : Proper a) where
     moved-inside q v f v′ h p =
         inside-shape q v′ _ _ _ (shape-charge (moveAt a e .price) _) (inside-resets _ r _ _ moved-to q v f v′ h p)
 
-    pub moved-within : within (a .ceilings) r ≡ true → within (a .ceilings) (movedBy a e r) ≡ true
-    moved-within c =
-        let v = pointOf r in
-        let v′ = zeroed (moveAt a e .resets) v in
-        let p = inside-own r w in
-        ceilings-at a ok (movedBy a e r) moved-well-formed moved-sized (suc (top r)) v′ _ (moved-inside (suc (top r)) v _ v′ (λ x. refl) p) .1
-        (below-lowered (suc (top r)) (a .ceilings) v v′ (zeroed-below (moveAt a e .resets) v)
-        (ceilings-at a ok r w sized (suc (top r)) v _ p .0 c))
+    -- The target's conditions are tested; the ceilings hold as they did before, since timers are only lowered.
+    pub moved-admits :
+        within (a .ceilings) r ≡ true → meetsAll (modeAt a (moveAt a e .target) .conditions) (movedBy a e r) ≡ true
+        → Admits a (moveAt a e .target) (movedBy a e r)
+    moved-admits c m = record { conditions = m; ceilings = ceilings-at a ok (movedBy a e r) moved-well-formed moved-sized q v′ _ p′ .1 below }
+      where
+        q : ℕ
+        q = suc (top r)
+
+        v : ℕ → ℕ
+        v = pointOf r
+
+        v′ : ℕ → ℕ
+        v′ = zeroed (moveAt a e .resets) v
+
+        p′ : Inside q v′ (moved-to .old) (movedBy a e r)
+        p′ = moved-inside q v (λ i. i) v′ (λ x. refl) (inside-own r w)
+
+        below : BelowCeilings q (a .ceilings) v′
+        below x l = omega (arith, zeroed-below (moveAt a e .resets) v x, ceilings-at a ok r w sized q v _ (inside-own r w) .0 c x l)
 
   pub reached-begin : Reached a (begin a)
   reached-begin =
@@ -97,39 +108,34 @@ module _ (a : Automaton) (ok : Proper a) where
         well-formed = w;
         sized = n;
         in-modes = omega (arith, ok .goal-there);
-        meets = mode-at a ok (start (timers a)) w n 1 _ _ p 0 .1 (s .0);
-        ceilings = ceilings-at a ok (start (timers a)) w n 1 _ _ p .1 (s .1);
+        admits = stays-at a ok (start (timers a)) w n 1 _ _ p 0 .1 s;
       }
 
   pub reached-step : (byte : ℕ) (p p′ : Place) → Reached a p → Stepped a p byte p′ → Reached a p′
-  reached-step byte p p′ h (leaves z m c) = record {
+  reached-step byte p p′ h (leaves z t) = record {
     well-formed = leave-well-formed (p .region) (h .well-formed) _ z;
     sized = leave-timers (p .region) _ .whole ∙ h .sized;
     in-modes = h .in-modes;
-    meets = m;
-    ceilings = c;
+    admits = t;
   }
-  reached-step byte p p′ h (arrives z m c) = record {
+  reached-step byte p p′ h (arrives z t) = record {
     well-formed = arrive-well-formed (p .region) (h .well-formed) z;
     sized = arrive-timers (p .region) .whole ∙ h .sized;
     in-modes = h .in-modes;
-    meets = m;
-    ceilings = c;
+    admits = t;
   }
   reached-step byte p p′ h (lingers z) = record {
     well-formed = subst WellFormed (linger-empty (rateAt a p) (p .region) z) (linger-well-formed (p .region) (h .well-formed) (rateAt a p));
     sized = h .sized;
     in-modes = h .in-modes;
-    meets = sym (shape-meetsAll _ _ (shape-linger _ (p .region)) (modeAt a (p .mode) .conditions)) ∙ h .meets;
-    ceilings = sym (shape-within _ _ (shape-linger _ (p .region)) (a .ceilings)) ∙ h .ceilings;
+    admits = shape-admits _ _ (shape-linger (rateAt a p) (p .region)) a (p .mode) (h .admits);
   }
   reached-step byte p p′ h (idles z) = h
   reached-step byte p p′ h (moves e b i o g m) = record {
     well-formed = moved-well-formed e (p .region) (h .well-formed) (h .sized);
     sized = moved-sized e (p .region) (h .well-formed) (h .sized);
     in-modes = ok .target-there (moveAt a e) (mem-getD (a .moves) e _ i);
-    meets = m;
-    ceilings = moved-within e (p .region) (h .well-formed) (h .sized) (h .ceilings);
+    admits = moved-admits e (p .region) (h .well-formed) (h .sized) (h .admits .ceilings) m;
   }
 
   pub chain-reached : (bytes : List ℕ) (p : Place) → chain a bytes ≡ some p → Reached a p

@@ -19,7 +19,7 @@ use Rattle.semantics.specs.Regions.WellFormed.{leave-well-formed, arrive
 use Rattle.semantics.specs.Bounds.Inside.{Inside, later, inside-shape, inside-leave, inside-stay, inside-arrive}
 use Rattle.semantics.specs.Bounds.Prices.{price, leave-price, leave-last, linger-last, arrive-price}
 use Rattle.semantics.specs.Bounds.Sides.{Sides}
-use Rattle.semantics.specs.Bounds.Stays.{mode-at, ceilings-at}
+use Rattle.semantics.specs.Bounds.Stays.{stays-at}
 use Rattle.semantics.specs.Bounds.Steps.{rateAt, Stepped, leaves, arrives, lingers, chain-snoc}
 use Rattle.semantics.specs.Bounds.Shapes.{shape-top, shape-linger}
 use Rattle.semantics.specs.Bounds.Reached.{Reached, chain-reached}
@@ -75,7 +75,7 @@ module _ (a : Automaton) (ok : Proper a) (Q l : ℕ) (v v′ : ℕ → ℕ) (wai
           let u = leave-well-formed (d .region) (reached .well-formed) (modeAt a l .rate) z in
           let n = leave-timers (d .region) (modeAt a l .rate) .whole ∙ reached .sized in
           chain-snoc a (d .steps) 64 _ _ (d .found)
-          (leaves z (mode-at a ok _ u n Q v′ _ left-inside l .1 (stays .0)) (ceilings-at a ok _ u n Q v′ _ left-inside .1 (stays .1)))
+          (leaves z (stays-at a ok _ u n Q v′ _ left-inside l .1 stays))
 
       left-top : top (leave (modeAt a l .rate) (d .region)) ≡ suc (top (d .region))
       left-top = leave-top (d .region) (reached .well-formed) (modeAt a l .rate)
@@ -161,7 +161,7 @@ module _ (a : Automaton) (ok : Proper a) (Q l : ℕ) (v v′ : ℕ → ℕ) (wai
       region = arrive (d .region);
       found =
           chain-snoc a (d .steps) 64 _ _ (d .found)
-          (arrives z (mode-at a ok _ u n Q v′ _ p l .1 (stays .0)) (ceilings-at a ok _ u n Q v′ _ p .1 (stays .1)));
+          (arrives z (stays-at a ok _ u n Q v′ _ p l .1 stays));
       corner = pred (d .corner);
       there = (let c : pred (d .corner) ≤ top (arrive (d .region)) = omega (arith, d .there, low-top) in c);
       cheap = omega (arith, d .cheap, arrive-price (d .region) (pred (d .corner)), ap (price (d .region)) one);

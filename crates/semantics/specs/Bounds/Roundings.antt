@@ -18,7 +18,7 @@ use Rattle.semantics.specs.Regions.Lengths.{start-prices}
 use Rattle.semantics.specs.Bounds.Inside.{Inside}
 use Rattle.semantics.specs.Bounds.Prices.{price}
 use Rattle.semantics.specs.Bounds.Sides.{Sides, sides-resets}
-use Rattle.semantics.specs.Bounds.Stays.{mode-at, move-at, stays-between, stays-double, all-double, start-stays}
+use Rattle.semantics.specs.Bounds.Stays.{Admits, guard-at, stays-at, holds-double, stays-double, stays-between, start-stays}
 use Rattle.semantics.specs.Bounds.Steps.{movedBy, moves, chain-snoc}
 use Rattle.semantics.specs.Bounds.Shapes.{shape-top, shape-charge}
 use Rattle.semantics.specs.Bounds.Reached.{Reached, chain-reached, start-inside, moved-to, moved-inside, moved-well-formed, moved-sized}
@@ -72,14 +72,16 @@ module _ (a : Automaton) (ok : Proper a) (q : ℕ) (pos : 0 < q) where
         let to = moved-to a ok e r (n .well-formed) (n .sized) in
         let p =
         moved-inside a ok e r (n .well-formed) (n .sized) (2 * q) (λ x. 2 * v x) (d .fraction) (λ x. 2 * zeroed (moveAt a e .resets) v x) (twice-zeroed (moveAt a e .resets) v) (d .inside) in
-        let guard = move-at a ok r (n .well-formed) (n .sized) (2 * q) _ _ (d .inside) e .1 (all-double q (moveAt a e .conditions) v _ (λ x. refl) g) in
-        let target =
-        mode-at a ok (movedBy a e r) (moved-well-formed a ok e r (n .well-formed) (n .sized)) (moved-sized a ok e r (n .well-formed) (n .sized)) (2 * q) _ _ p (moveAt a e .target) .1 (stays-double a q (moveAt a e .target) _ _ (λ x. refl) h .0) in
+        let guard =
+        guard-at a ok r (n .well-formed) (n .sized) (2 * q) _ _ (d .inside) e .1 (holds-double q (moveAt a e .conditions) v _ (λ x. refl) g) in
+        let target : Admits a (moveAt a e .target) (movedBy a e r) =
+        stays-at a ok (movedBy a e r) (moved-well-formed a ok e r (n .well-formed) (n .sized)) (moved-sized a ok e r (n .well-formed) (n .sized))
+        (2 * q) _ _ p (moveAt a e .target) .1 (stays-double a q (moveAt a e .target) _ _ (λ x. refl) h) in
         let out = move-flow a ok e r (n .well-formed) (n .sized) .least (d .corner) (d .there) _ (List·Memᴰ·head refl) in
         record {
           steps = d .steps ++ e ∷ [];
           region = movedBy a e r;
-          found = chain-snoc a (d .steps) e _ _ (d .found) (moves e (omega (arith, ok .few-moves)) i o guard target);
+          found = chain-snoc a (d .steps) e _ _ (d .found) (moves e (omega (arith, ok .few-moves)) i o guard (target .conditions));
           corner = resetAllCorner (moveAt a e .resets) r (d .corner);
           there = out .there;
           cheap = omega (arith, d .cheap, out .least);

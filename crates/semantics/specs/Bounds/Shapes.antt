@@ -17,6 +17,7 @@ use Rattle.semantics.specs.CornerPath.{SameShape, SamePlace}
 use Rattle.semantics.specs.Regions.Cases.{lingered, resetAlone, resetJoined, reset-alone, reset-joined, alone-cases}
 use Rattle.semantics.specs.Regions.Lengths.{leave-prices, arrive-prices, charge-prices, reset-alone-prices, reset-joined-prices, reset-timers}
 use Rattle.semantics.specs.Regions.WellFormed.{reset-well-formed}
+use Rattle.semantics.specs.Bounds.Stays.{Admits}
 use Rattle.semantics.specs.Bounds.Steps.{rateAt, movedBy, Stepped, leaves, arrives, lingers, idles, moves, step-view, view-step, follow-first, follow-cons}
 
 -- How many prices are left where two become one.
@@ -76,9 +77,15 @@ module _ (r s : PricedRegion) (e : SameShape r s) where
   shape-withinFrom x [] = refl
   shape-withinFrom x (c ∷ cs) = ap₂ _&&_ (shape-meets _) (shape-withinFrom (suc x) cs)
 
-  pub shape-within : (cs : List ℕ) → within cs r ≡ within cs s
+  shape-within : (cs : List ℕ) → within cs r ≡ within cs s
   unfolding within
   shape-within cs = shape-withinFrom 0 cs
+
+  pub shape-admits : (a : Automaton) (l : ℕ) → Admits a l r → Admits a l s
+  shape-admits a l t = record {
+    conditions = sym (shape-meetsAll (modeAt a l .conditions)) ∙ t .conditions;
+    ceilings = sym (shape-within (a .ceilings)) ∙ t .ceilings;
+  }
 
   pub shape-reset : (x : ℕ) → SameShape (reset x r) (reset x s)
   shape-reset x =
@@ -116,18 +123,18 @@ module _ (a : Automaton) where
   step-region :
       (p : Place) (r : PricedRegion) → SameShape (p .region) r → {byte : ℕ} {p′ : Place} → Stepped a p byte p′
       → StepsAlike a (record { mode = p .mode; region = r }) byte p′
-  step-region p r e (leaves z m c) =
+  step-region p r e (leaves z t) =
       let h = shape-leave (p .region) r e (rateAt a p) in
       record {
         place = record { mode = p .mode; region = leave (rateAt a p) r };
-        stepped = leaves (rw (← e .group) z) (sym (shape-meetsAll _ _ h (modeAt a (p .mode) .conditions)) ∙ m) (sym (shape-within _ _ h (a .ceilings)) ∙ c);
+        stepped = leaves (rw (← e .group) z) (shape-admits _ _ h a (p .mode) t);
         same = record { mode = refl; region = h };
       }
-  step-region p r e (arrives z m c) =
+  step-region p r e (arrives z t) =
       let h = shape-arrive (p .region) r e in
       record {
         place = record { mode = p .mode; region = arrive r };
-        stepped = arrives (rw (← e .group) z) (sym (shape-meetsAll _ _ h (modeAt a (p .mode) .conditions)) ∙ m) (sym (shape-within _ _ h (a .ceilings)) ∙ c);
+        stepped = arrives (rw (← e .group) z) (shape-admits _ _ h a (p .mode) t);
         same = record { mode = refl; region = h };
       }
   step-region p r e (lingers z) = record {

@@ -15,6 +15,7 @@ use Rattle.semantics.specs.Region.{PricedRegion, count, leave, arrive, d
 use Rattle.semantics.specs.Chain.{Place, onlyIf, delayStep, lingerStep, moveStep, step, follow, begin, chain}
 use Rattle.semantics.specs.Regions.Compare.{and-true-iff}
 use Rattle.semantics.specs.Regions.Cases.{zero-cases, delay-arrive, delay-leave, lingered, linger-empty, linger-same}
+use Rattle.semantics.specs.Bounds.Stays.{Admits}
 
 -- The rate of a place's mode.
 abbrev pub rateAt : Automaton → Place → ℕ
@@ -27,12 +28,11 @@ movedBy a e r = charge (moveAt a e .price) (resetAll (moveAt a e .resets) r)
 -- The step of a byte leads from the place p to another.
 pub data Stepped (a : Automaton) (p : Place) : ℕ → Place → Type 0 where
   leaves :
-      0 < count 0 (p .region .group) → meetsAll (modeAt a (p .mode) .conditions) (leave (rateAt a p) (p .region)) ≡ true
-      → within (a .ceilings) (leave (rateAt a p) (p .region)) ≡ true
+      0 < count 0 (p .region .group) → Admits a (p .mode) (leave (rateAt a p) (p .region))
       → Stepped a p 64 (record { mode = p .mode; region = leave (rateAt a p) (p .region) })
   arrives :
-      count 0 (p .region .group) ≡ 0 → meetsAll (modeAt a (p .mode) .conditions) (arrive (p .region)) ≡ true
-      → within (a .ceilings) (arrive (p .region)) ≡ true → Stepped a p 64 (record { mode = p .mode; region = arrive (p .region) })
+      count 0 (p .region .group) ≡ 0 → Admits a (p .mode) (arrive (p .region))
+      → Stepped a p 64 (record { mode = p .mode; region = arrive (p .region) })
   lingers : count 0 (p .region .group) ≡ 0 → Stepped a p 65 (record { mode = p .mode; region = lingered (rateAt a p) (p .region) })
   idles : 0 < count 0 (p .region .group) → Stepped a p 65 p
   moves :
@@ -46,12 +46,11 @@ only-if false p p′ h = absurd (Option·none-ne-some p′ h)
 
 module _ (a : Automaton) (p : Place) where
   delayed :
-      meetsAll (modeAt a (p .mode) .conditions) (delay (rateAt a p) (p .region)) ≡ true
-      → within (a .ceilings) (delay (rateAt a p) (p .region)) ≡ true
+      Admits a (p .mode) (delay (rateAt a p) (p .region))
       → Stepped a p 64 (record { mode = p .mode; region = delay (rateAt a p) (p .region) })
-  delayed m c =
-      ⊎-elim (λ z. let e = delay-arrive (rateAt a p) (p .region) z in rw e (arrives z (rw e at m) (rw e at c)))
-      (λ z. let e = delay-leave (rateAt a p) (p .region) z in rw e (leaves z (rw e at m) (rw e at c)))
+  delayed t =
+      ⊎-elim (λ z. let e = delay-arrive (rateAt a p) (p .region) z in rw e (arrives z (rw e at t)))
+      (λ z. let e = delay-leave (rateAt a p) (p .region) z in rw e (leaves z (rw e at t)))
       (zero-cases (p .region))
 
   lingering : Stepped a p 65 (record { mode = p .mode; region = linger (rateAt a p) (p .region) })
@@ -66,7 +65,7 @@ module _ (a : Automaton) (p : Place) where
     delay-view h =
         let o = only-if _ _ p′ h in
         let t = and-true-iff _ _ .0 (o .0) in
-        subst (Stepped a p 64) (o .1) (delayed (t .0) (t .1))
+        subst (Stepped a p 64) (o .1) (delayed (record { conditions = t .0; ceilings = t .1 }))
 
     linger-view : lingerStep a p ≡ some p′ → Stepped a p 65 p′
     unfolding lingerStep
@@ -97,8 +96,8 @@ module _ (a : Automaton) (p : Place) where
   -- And a step of one of the cases is allowed.
   pub view-step : {byte : ℕ} {p′ : Place} → Stepped a p byte p′ → step a byte p ≡ some p′
   unfolding step delayStep lingerStep moveStep
-  view-step (leaves z m c) = rw (delay-leave (rateAt a p) (p .region) z, m, c) refl
-  view-step (arrives z m c) = rw (delay-arrive (rateAt a p) (p .region) z, m, c) refl
+  view-step (leaves z t) = rw (delay-leave (rateAt a p) (p .region) z, t .conditions, t .ceilings) refl
+  view-step (arrives z t) = rw (delay-arrive (rateAt a p) (p .region) z, t .conditions, t .ceilings) refl
   view-step (lingers z) = rw (linger-empty (rateAt a p) (p .region) z) refl
   view-step (idles z) = rw (linger-same (rateAt a p) (p .region) z) refl
   view-step (moves e b i o g m) = rw (lt-ltb e 64 b, lt-ltb e (length (a .moves)) i, eq-eqb (moveAt a e .source) (p .mode) o, g, m) refl

@@ -22,9 +22,10 @@ use Rattle.semantics.specs.Regions.Cases.{lingered}
 use Rattle.semantics.specs.Regions.Groups.{top-pos}
 use Rattle.semantics.specs.Regions.Lengths.{prices-top, leave-top, arrive-top}
 use Rattle.semantics.specs.Bounds.Prices.{price, leave-price, leave-last, linger-price, linger-last, arrive-price}
+use Rattle.semantics.specs.Bounds.Stays.{Admits}
 use Rattle.semantics.specs.Bounds.Steps.{rateAt, movedBy, Stepped, leaves, arrives, lingers, idles, moves, step-view, follow-first}
 use Rattle.semantics.specs.Bounds.Shapes.{shape-top, shape-linger}
-use Rattle.semantics.specs.Bounds.Reached.{Reached, reached-begin, reached-step}
+use Rattle.semantics.specs.Bounds.Reached.{Reached, reached-begin, reached-step, moved-admits}
 use Rattle.semantics.specs.Bounds.Flow.{move-flow}
 use Rattle.semantics.specs.Bounds.Runs.{made-run}
 use Rattle.semantics.specs.Bounds.Approach.{ApproachAt, Approach, approach-start, approach-shape, approach-move}
@@ -43,9 +44,9 @@ module _ (a : Automaton) (ok : Proper a) (made : List ℕ) (l : ℕ) (r : Priced
     (n : Approaches a made (record { mode = l; region = r })) where
   -- Delay out of r0.
   leave-approaches :
-      0 < count 0 (r .group) → meetsAll (modeAt a l .conditions) (leave (modeAt a l .rate) r) ≡ true
-      → within (a .ceilings) (leave (modeAt a l .rate) r) ≡ true → Approaches a made (record { mode = l; region = leave (modeAt a l .rate) r })
-  leave-approaches z m c i b = go (ℕ-discrete i (suc (top r)))
+      0 < count 0 (r .group) → Admits a l (leave (modeAt a l .rate) r)
+      → Approaches a made (record { mode = l; region = leave (modeAt a l .rate) r })
+  leave-approaches z t i b = go (ℕ-discrete i (suc (top r)))
     where
       k : top (leave (modeAt a l .rate) r) ≡ suc (top r)
       k = leave-top r wf (modeAt a l .rate)
@@ -53,24 +54,22 @@ module _ (a : Automaton) (ok : Proper a) (made : List ℕ) (l : ℕ) (r : Priced
       go : Dec (i ≡ suc (top r)) → Approach a made l (leave (modeAt a l .rate) r) i (price (leave (modeAt a l .rate) r) i)
       go (yes e) =
           approach-cast (k ∙ sym e) (sym (ap (price (leave (modeAt a l .rate) r)) e ∙ leave-last r wf (modeAt a l .rate)))
-          (approach-jump a ok made l r wf sized (price r 0) z m c (n 0 (omega arith)))
+          (approach-jump a ok made l r wf sized (price r 0) z t (n 0 (omega arith)))
       go (no f) =
           let d : i ≤ top r = omega (arith, k) in
-          approach-cast refl (sym (leave-price r wf (modeAt a l .rate) i d)) (approach-leave a ok made l r wf sized z m c i (price r i) (n i d))
+          approach-cast refl (sym (leave-price r wf (modeAt a l .rate) i d)) (approach-leave a ok made l r wf sized z t i (price r i) (n i d))
 
   -- Delay where r0 is empty.
   arrive-approaches :
-      count 0 (r .group) ≡ 0 → meetsAll (modeAt a l .conditions) (arrive r) ≡ true → within (a .ceilings) (arrive r) ≡ true
-      → Approaches a made (record { mode = l; region = arrive r })
-  arrive-approaches z m c i b =
+      count 0 (r .group) ≡ 0 → Admits a l (arrive r) → Approaches a made (record { mode = l; region = arrive r })
+  arrive-approaches z t i b =
       let d : suc i ≤ top r = omega (arith, arrive-top r wf, top-pos r wf z) in
-      approach-cast refl (sym (arrive-price r i)) (approach-arrive a ok made l r wf sized z m c i (price r (suc i)) d (n (suc i) d))
+      approach-cast refl (sym (arrive-price r i)) (approach-arrive a ok made l r wf sized z t i (price r (suc i)) d (n (suc i) d))
 
   -- Linger where r0 is empty.
   linger-approaches :
-      count 0 (r .group) ≡ 0 → meetsAll (modeAt a l .conditions) r ≡ true → within (a .ceilings) r ≡ true
-      → Approaches a made (record { mode = l; region = lingered (modeAt a l .rate) r })
-  linger-approaches z m c i b =
+      count 0 (r .group) ≡ 0 → Admits a l r → Approaches a made (record { mode = l; region = lingered (modeAt a l .rate) r })
+  linger-approaches z t i b =
       approach-shape a ok made l r (lingered (modeAt a l .rate) r) i _ (shape-linger (modeAt a l .rate) r)
       (go (ℕ-discrete i (top r)) (decLe (price r (top r)) (price r 0 + modeAt a l .rate)))
     where
@@ -83,18 +82,18 @@ module _ (a : Automaton) (ok : Proper a) (made : List ℕ) (l : ℕ) (r : Priced
       go : Dec (i ≡ top r) → Dec (price r (top r) ≤ price r 0 + modeAt a l .rate) → Approach a made l r i (price (lingered (modeAt a l .rate) r) i)
       go (no f) d = approach-cast refl (sym (linger-price r wf (modeAt a l .rate) i f)) (n i there)
       go (yes e) (yes d) = rw e (approach-cast refl (omega (arith, last)) (n (top r) (omega arith)))
-      go (yes e) (no d) = rw e (approach-cast refl (omega (arith, last)) (approach-linger a ok made l r wf sized (price r 0) z m c (n 0 (omega arith))))
+      go (yes e) (no d) = rw e (approach-cast refl (omega (arith, last)) (approach-linger a ok made l r wf sized (price r 0) z t (n 0 (omega arith))))
 
   -- A move.
   move-approaches :
       (e : ℕ) → e < length (a .moves) → moveAt a e .source ≡ l → meetsAll (moveAt a e .conditions) r ≡ true
-      → meetsAll (modeAt a (moveAt a e .target) .conditions) (movedBy a e r) ≡ true
+      → Admits a (moveAt a e .target) (movedBy a e r)
       → Approaches a (made ++ e ∷ []) (record { mode = moveAt a e .target; region = movedBy a e r })
-  move-approaches e j o g m i b =
+  move-approaches e j o g t i b =
       let c = move-flow a ok e r wf sized .attained i b in
       let d = List·Memᴰ·eq-of-singleton (c .listed) in
       approach-cast (sym (ap (λ (u : Edge). u .corner) d) ∙ c .leads) (sym (c .sum ∙ ap (λ (u : Edge). price r (c .from) + u .weight) d))
-      (approach-move a ok made l e r wf sized (c .from) (price r (c .from)) j o g m (n (c .from) (c .there)))
+      (approach-move a ok made l e r wf sized (c .from) (price r (c .from)) j o g t (n (c .from) (c .there)))
 
 movesOf-cons : (byte : ℕ) (bytes : List ℕ) → movesOf (byte ∷ bytes) ≡ movesOf (byte ∷ []) ++ movesOf bytes
 unfolding movesOf
@@ -109,12 +108,12 @@ module _ (a : Automaton) (ok : Proper a) where
       (byte : ℕ) (p p′ : Place) (made : List ℕ) → Reached a p → Stepped a p byte p′ → Approaches a made p
       → Approaches a (made ++ movesOf (byte ∷ [])) p′
   unfolding movesOf
-  step-approaches byte p p′ made h (leaves z m c) n = rw (append-nil made) (leave-approaches a ok made (p .mode) (p .region) (h .well-formed) (h .sized) n z m c)
-  step-approaches byte p p′ made h (arrives z m c) n = rw (append-nil made) (arrive-approaches a ok made (p .mode) (p .region) (h .well-formed) (h .sized) n z m c)
-  step-approaches byte p p′ made h (lingers z) n = rw (append-nil made) (linger-approaches a ok made (p .mode) (p .region) (h .well-formed) (h .sized) n z (h .meets) (h .ceilings))
+  step-approaches byte p p′ made h (leaves z t) n = rw (append-nil made) (leave-approaches a ok made (p .mode) (p .region) (h .well-formed) (h .sized) n z t)
+  step-approaches byte p p′ made h (arrives z t) n = rw (append-nil made) (arrive-approaches a ok made (p .mode) (p .region) (h .well-formed) (h .sized) n z t)
+  step-approaches byte p p′ made h (lingers z) n = rw (append-nil made) (linger-approaches a ok made (p .mode) (p .region) (h .well-formed) (h .sized) n z (h .admits))
   step-approaches byte p p′ made h (idles z) n = rw (append-nil made) n
   step-approaches byte p p′ made h (moves e b i o g m) n =
-      rw (lt-ltb e 64 b) (move-approaches a ok made (p .mode) (p .region) (h .well-formed) (h .sized) n e i o g m)
+      rw (lt-ltb e 64 b) (move-approaches a ok made (p .mode) (p .region) (h .well-formed) (h .sized) n e i o g (moved-admits a ok e (p .region) (h .well-formed) (h .sized) (h .admits .ceilings) m))
 
   follow-approaches :
       (bytes : List ℕ) (p p′ : Place) (made : List ℕ) → Reached a p → follow a bytes p ≡ some p′ → Approaches a made p

@@ -24,3 +24,4 @@ pub mod ApproachDelay
 pub mod ApproachPass
 pub mod Upper
 pub mod Exists
+pub mod Nodes

@@ -2,16 +2,15 @@
 -- whole minutes, if the corner leaves them down, or below their next whole minutes, if it takes them up; and it is charged, in q-ths, at
 -- most q times the corner's price and σ times some constant.
 -- Assumes nothing.
-use mathlib.Core.Path.{_≡_, refl, ap, _∙_, sym, subst}
+use mathlib.Core.Path.{_≡_, refl}
 use mathlib.Core.Bool.{true}
 use mathlib.Core.List.{List, [], _∷_, _++_}
-use Prim.Native.Nat.{ℕ, zero, suc, _+_, _*_, _<_, _≤_}
-use native.Mathlib.Nat.{mul-le-mul-left}
+use Prim.Native.Nat.{ℕ, _+_, _*_, _<_, _≤_}
 use native.Mathlib.Omega.{arith}
 use lib.ListN.{length}
 use Rattle.semantics.specs.Automaton.{Automaton, timers, modeAt, moveAt, Proper}
-use Rattle.semantics.specs.Region.{PricedRegion, WellFormed, top, start, resetAll, meetsAll, within}
-use Rattle.semantics.specs.Run.{Stays, among, zeroed}
+use Rattle.semantics.specs.Region.{PricedRegion, WellFormed, top, start, resetAll, meetsAll}
+use Rattle.semantics.specs.Run.{among, zeroed}
 use Rattle.semantics.specs.CornerPath.{resetAllCorner, SameShape}
 use Rattle.semantics.specs.Bounds.Inside.{Inside, inside-shape}
 use Rattle.semantics.specs.Bounds.Reset.{ResetTo}

@@ -1,22 +1,21 @@
 -- Delay along an edge of weight 0, for the runs that come near a corner. Out of r0 the corner stays, and a run at twice the scale waits σ.
 -- Where r0 is empty the corner goes down by one, and the run waits until the highest group is on its minute.
 -- Assumes nothing.
-use mathlib.Core.Path.{_≡_, refl, ap, _∙_, sym}
-use mathlib.Core.Bool.{true, cond}
+use mathlib.Core.Path.{_≡_, refl, ap, _∙_}
+use mathlib.Core.Bool.{cond}
 use mathlib.Core.List.{List}
 use Prim.Native.Nat.{ℕ, zero, suc, pred, _+_, _*_, _-_, _<_, _≤_}
-use native.Mathlib.Nat.{mul-le-mul-left, mul-le-mul-right, mul-sub}
+use native.Mathlib.Nat.{mul-le-mul-left, mul-sub}
 use native.Mathlib.Decide.{decLt}
 use native.Mathlib.Omega.{arith}
 use borrow.Author.Tests.{lt-ltb, le-ltb}
 use lib.Dec.{ltb}
 use lib.ListN.{length}
 use Rattle.semantics.specs.Automaton.{Automaton, timers, modeAt, Proper}
-use Rattle.semantics.specs.Region.{PricedRegion, WellFormed, count, top, leave, arrive, meetsAll, within}
-use Rattle.semantics.specs.Run.{Stays}
+use Rattle.semantics.specs.Region.{PricedRegion, WellFormed, count, top, leave, arrive}
 use Rattle.semantics.specs.Regions.Lengths.{leave-timers, leave-top, arrive-timers, arrive-top}
 use Rattle.semantics.specs.Regions.WellFormed.{leave-well-formed, arrive-well-formed}
-use Rattle.semantics.specs.Bounds.Inside.{Inside, later, inside-leave, inside-arrive}
+use Rattle.semantics.specs.Bounds.Inside.{later, inside-leave, inside-arrive}
 use Rattle.semantics.specs.Bounds.Stays.{Admits}
 use Rattle.semantics.specs.Bounds.Approach.{ApproachAt, Approach, approach-wait}
 

@@ -2,18 +2,16 @@
 -- until σ times its limit is left of the minute, and is charged at most the rate for it.
 -- Assumes nothing.
 use mathlib.Core.Path.{_≡_, refl, _∙_}
-use mathlib.Core.Bool.{true}
 use mathlib.Core.List.{List}
 use Prim.Native.Nat.{ℕ, zero, suc, _+_, _*_, _-_, _<_, _≤_}
 use native.Mathlib.Nat.{mul-le-mul-left, mul-le-mul-right, mul-sub}
 use native.Mathlib.Omega.{arith}
 use lib.ListN.{length}
 use Rattle.semantics.specs.Automaton.{Automaton, timers, modeAt, Proper}
-use Rattle.semantics.specs.Region.{PricedRegion, WellFormed, count, top, leave, meetsAll, within}
+use Rattle.semantics.specs.Region.{PricedRegion, WellFormed, count, top, leave}
 use Rattle.semantics.specs.Regions.Lengths.{leave-timers, leave-top}
 use Rattle.semantics.specs.Regions.WellFormed.{leave-well-formed}
 use Rattle.semantics.specs.Bounds.Inside.{Inside, later, inside-leave, inside-stay}
-use Rattle.semantics.specs.Bounds.Sides.{Sides}
 use Rattle.semantics.specs.Bounds.Stays.{Admits}
 use Rattle.semantics.specs.Bounds.Approach.{ApproachAt, Approach, approach-wait}
 

@@ -1,6 +1,6 @@
 -- A run into a mode exists exactly if a chain into it does: a run, rounded at any phase, is a chain, and a chain is approached by runs of its moves.
 -- Assumes nothing.
-use mathlib.Core.Path.{_≡_, refl}
+use mathlib.Core.Path.{_≡_}
 use mathlib.Core.Logic.{_↔_}
 use mathlib.Core.List.{List}
 use mathlib.Core.Option.{some}
@@ -10,7 +10,7 @@ use Rattle.semantics.specs.Automaton.{Automaton, Proper}
 use Rattle.semantics.specs.Run.{Act, movesIn, RunInto}
 use Rattle.semantics.specs.Chain.{Place, chain, movesOf}
 use Rattle.semantics.specs.Floor.{NoChain}
-use Rattle.semantics.specs.Demand.{Near, NoRun}
+use Rattle.semantics.specs.Demand.{NoRun}
 use Rattle.semantics.specs.Bounds.Reached.{chain-reached}
 use Rattle.semantics.specs.Bounds.Roundings.{roundings}
 use Rattle.semantics.specs.Bounds.Upper.{upper}

@@ -1,25 +1,24 @@
 -- Prices pass along edges: after a step, the price of a corner is the least sum of a price before it and the weight of an edge that leads there.
 -- Assumes nothing.
 use mathlib.Core.Path.{_≡_, refl, ap, _∙_, sym, subst, fun-ext}
-use mathlib.Core.Bool.{Bool, true, false, cond}
 use mathlib.Core.Logic.{⊎-elim}
-use mathlib.Core.List.{List, [], _∷_, List·Memᴰ, List·Memᴰ·head, List·Memᴰ·tail, List·Memᴰ·not-nil, List·Memᴰ·cases-cons, List·Memᴰ·eq-of-singleton}
-use Prim.Native.Nat.{ℕ, zero, suc, pred, min, _+_, _<_, _≤_}
-use native.Mathlib.Nat.{add-zero, le-refl}
+use mathlib.Core.List.{List, List·Memᴰ, List·Memᴰ·head, List·Memᴰ·tail, List·Memᴰ·not-nil, List·Memᴰ·cases-cons, List·Memᴰ·eq-of-singleton}
+use Prim.Native.Nat.{ℕ, zero, suc, _+_, _<_, _≤_}
+use native.Mathlib.Nat.{le-refl}
 use native.Mathlib.Decide.{decLe, ℕ-discrete}
 use native.Mathlib.Omega.{arith}
 use borrow.Author.Tests.{eq-eqb, ne-eqb, lt-ltb}
-use lib.ListN.{length, getD}
-use Rattle.semantics.specs.Automaton.{Automaton, timers, modeAt, moveAt, Proper}
-use Rattle.semantics.specs.Region.{PricedRegion, WellFormed, count, top, leave, arrive, resetAll, charge}
+use lib.ListN.{length}
+use Rattle.semantics.specs.Automaton.{Automaton, timers, moveAt, Proper}
+use Rattle.semantics.specs.Region.{PricedRegion, WellFormed, count, top, leave, arrive, resetAll}
 use Rattle.semantics.specs.Run.{among}
 use Rattle.semantics.specs.Chain.{Place}
-use Rattle.semantics.specs.CornerPath.{Edge, leaveEdges, arriveEdges, delayEdges, lingerEdges, moveEdges, resetAllCorner, edges}
+use Rattle.semantics.specs.CornerPath.{Edge, leaveEdges, arriveEdges, lingerEdges, moveEdges, resetAllCorner, edges}
 use Rattle.semantics.specs.Regions.Cases.{lingered}
-use Rattle.semantics.specs.Regions.Lengths.{prices-top, leave-top, arrive-top}
+use Rattle.semantics.specs.Regions.Lengths.{leave-top, arrive-top}
 use Rattle.semantics.specs.Regions.Groups.{top-pos}
 use Rattle.semantics.specs.Bounds.Prices.{price, leave-price, leave-last, linger-price, linger-last, arrive-price, charge-price}
-use Rattle.semantics.specs.Bounds.Reset.{ResetTo, Source}
+use Rattle.semantics.specs.Bounds.Reset.{ResetTo}
 use Rattle.semantics.specs.Bounds.Steps.{rateAt, movedBy, Stepped, leaves, arrives, lingers, idles, moves}
 use Rattle.semantics.specs.Bounds.Shapes.{shape-top, shape-linger, shape-charge}
 use Rattle.semantics.specs.Bounds.Reached.{Reached, reset-well-formed, moved-to}

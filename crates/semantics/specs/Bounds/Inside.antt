@@ -2,16 +2,15 @@
 -- and stays below q. What waiting does to such a point: it comes to the next region (leave, arrive) or stays in its own.
 -- Assumes nothing.
 use mathlib.Core.Path.{_≡_, refl, ap, _∙_, sym}
-use mathlib.Core.Bool.{cond}
 use Prim.Native.Nat.{ℕ, zero, suc, pred, _+_, _*_, _/_, _%_, _<_, _≤_}
 use native.Mathlib.Nat.{mul-add-div, div-eq-of-lt, mul-add-mod-self-left, mod-eq-of-lt}
-use native.Mathlib.Decide.{decLt, ℕ-discrete}
+use native.Mathlib.Decide.{ℕ-discrete}
 use native.Mathlib.Omega.{arith}
 use lib.ListN.{length, getD}
 use Rattle.semantics.specs.Region.{PricedRegion, WellFormed, count, top, leave, arrive}
 use Rattle.semantics.specs.Point.{Point}
 use Rattle.semantics.specs.CornerPath.{SameShape}
-use Rattle.semantics.specs.Regions.Lengths.{leave-timers, leave-top, arrive-timers, arrive-top, prices-top}
+use Rattle.semantics.specs.Regions.Lengths.{leave-top, arrive-timers, arrive-top, prices-top}
 use Rattle.semantics.specs.Regions.Points.{pointOf}
 use Rattle.semantics.specs.Bounds.Entries.{raised, leave-group, Arrived, on, off, arrived}
 

@@ -1,17 +1,14 @@
 -- The lower bound: a run into a mode is charged no less than the least corner price over the chains into it.
 -- Assumes nothing.
-use mathlib.Core.Path.{_≡_, _∙_}
-use mathlib.Core.List.{List}
-use Prim.Native.Nat.{ℕ, _+_, _*_, _<_, _≤_}
+use Prim.Native.Nat.{ℕ}
 use native.Mathlib.Omega.{arith}
 use Rattle.semantics.specs.Automaton.{Automaton, Proper}
-use Rattle.semantics.specs.Run.{Act, RunInto, charge}
 use Rattle.semantics.specs.Floor.{Floor}
 use Rattle.semantics.specs.Demand.{AtLeast}
 use Rattle.semantics.specs.Regions.Lengths.{prices-top}
 use Rattle.semantics.specs.Bounds.Reached.{chain-reached}
 use Rattle.semantics.specs.Bounds.Sum.{sum-at-least}
-use Rattle.semantics.specs.Bounds.Roundings.{Roundings, roundings}
+use Rattle.semantics.specs.Bounds.Roundings.{roundings}
 
 -- "every run from the start, timers at zero, into the goal, whatever its moves and whatever its delays, in fractions of a minute of any
 -- denominator, is charged C or more", where every chain into the goal has all corner prices at C or more.

@@ -1,22 +1,20 @@
 -- From two places of one shape the same steps have the same edges, so that prices compare after the steps as they do before them:
 -- lower prices lead to lower prices, and prices that are all C higher lead to prices that are all C higher.
 -- Assumes nothing.
-use mathlib.Core.Path.{_≡_, refl, ap, ap₂, _∙_, sym, subst}
-use mathlib.Core.Bool.{cond}
-use mathlib.Core.List.{List, [], _∷_, List·Memᴰ}
+use mathlib.Core.Path.{_≡_, refl, ap, _∙_, sym, subst}
+use mathlib.Core.List.{List, [], _∷_}
 use mathlib.Core.Option.{some, Option·some-injective}
-use Prim.Native.Nat.{ℕ, zero, suc, pred, _+_, _<_, _≤_}
+use Prim.Native.Nat.{ℕ, zero, suc, _+_, _≤_}
 use native.Mathlib.Omega.{arith}
-use lib.ListN.{length, getD}
-use Rattle.semantics.specs.Automaton.{Move, Automaton, modeAt, moveAt, Proper}
+use Rattle.semantics.specs.Automaton.{Automaton, modeAt, moveAt, Proper}
 use Rattle.semantics.specs.Region.{PricedRegion, WellFormed, top, reset}
-use Rattle.semantics.specs.Chain.{Place, step, follow}
-use Rattle.semantics.specs.CornerPath.{Edge, leaveEdges, delayEdges, lingerEdges, resetCorner, resetAllCorner, moveEdges, edges, SameShape, SamePlace}
+use Rattle.semantics.specs.Chain.{Place, follow}
+use Rattle.semantics.specs.CornerPath.{delayEdges, lingerEdges, resetCorner, resetAllCorner, edges, SameShape, SamePlace}
 use Rattle.semantics.specs.Bounds.Prices.{price}
 use Rattle.semantics.specs.Bounds.Steps.{Stepped, step-view, view-step, follow-first}
-use Rattle.semantics.specs.Bounds.Shapes.{shape-sym, shape-top, shape-reset, shape-admits, StepsAlike, step-alike, follow-alike}
+use Rattle.semantics.specs.Bounds.Shapes.{shape-sym, shape-top, shape-reset, shape-admits, step-alike, follow-alike}
 use Rattle.semantics.specs.Bounds.Reached.{Reached, reached-step}
-use Rattle.semantics.specs.Bounds.Flow.{Flow, step-flow}
+use Rattle.semantics.specs.Bounds.Flow.{step-flow}
 
 -- The edges go by the shape.
 module _ (r s : PricedRegion) (e : SameShape r s) where

@@ -1,21 +1,23 @@
 -- The two laws of corner paths: each corner price of a chain is the weight of a corner path along it, and no corner path along it weighs less.
 -- Both hold from any place, with the price of the corner where the path begins.
 -- Assumes nothing.
-use mathlib.Core.Path.{_≡_, refl, ap, _∙_, sym, subst, subst₂}
+use mathlib.Core.Path.{_≡_, refl, _∙_, sym, subst, subst₂}
+use mathlib.Core.Logic.{_↔_}
 use mathlib.Core.List.{List, [], _∷_, List·Memᴰ}
 use mathlib.Core.Option.{some, Option·some-injective}
-use Prim.Native.Nat.{ℕ, zero, suc, _+_, _<_, _≤_}
+use Prim.Native.Nat.{ℕ, _+_, _<_, _≤_}
 use native.Mathlib.Omega.{arith}
 use lib.ListN.{length, getD}
 use Rattle.semantics.specs.Automaton.{Automaton, timers, Proper}
-use Rattle.semantics.specs.Region.{PricedRegion, top, start}
+use Rattle.semantics.specs.Region.{top, start}
 use Rattle.semantics.specs.Chain.{Place, step, follow, begin, chain}
 use Rattle.semantics.specs.CornerPath.{Edge, edges, CornerPath, stop, along}
+use Rattle.semantics.specs.Floor.{Floor}
 use Rattle.semantics.specs.Regions.Lengths.{prices-top, start-prices}
 use Rattle.semantics.specs.Bounds.Prices.{price}
 use Rattle.semantics.specs.Bounds.Steps.{step-view, follow-first, follow-cons}
 use Rattle.semantics.specs.Bounds.Reached.{Reached, reached-begin, reached-step, chain-reached}
-use Rattle.semantics.specs.Bounds.Flow.{Flow, step-flow}
+use Rattle.semantics.specs.Bounds.Flow.{step-flow}
 
 -- A corner path along the steps from a corner of p to corner i of p′, which explains the price of i.
 pub record Explained (a : Automaton) (bytes : List ℕ) (p p′ : Place) (i : ℕ) : Type 0 where
@@ -96,3 +98,13 @@ module _ (a : Automaton) (ok : Proper a) where
       let o = path-follow c (reached-begin a ok) (omega arith) in
       let n = chain-reached a ok bytes p (o .found) .well-formed .priced in
       (o .found, omega (arith, o .there, prices-top (p .region) n), omega (arith, o .least))
+
+  -- So chains into a mode have no price below C exactly if corner paths into it have no weight below C.
+  pub floor-paths :
+      (l C : ℕ)
+      → Floor a l C
+      ↔ ((bytes : List ℕ) (p : Place) (i w : ℕ) → CornerPath a bytes (begin a) 0 p i w → p .mode ≡ l → C ≤ w)
+  floor-paths l C = (
+    λ floor bytes p i w c e. let o = path-chain c in omega (arith, o .2, floor bytes p (o .0) e i (o .1)),
+    λ least bytes p f e i b. least bytes p i _ (chain-path bytes p f i b) e,
+  )

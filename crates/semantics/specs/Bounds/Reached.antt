@@ -1,21 +1,21 @@
 -- What holds of every place on a chain: its region is well-formed and has the automaton's timers, its mode is one of the automaton's, and
 -- the region meets the mode's conditions and the ceilings. A move's step does not test the ceilings: resets only lower values.
 -- Assumes nothing.
-use mathlib.Core.Path.{_≡_, refl, ap, _∙_, sym, subst}
+use mathlib.Core.Path.{_≡_, refl, _∙_, subst}
 use mathlib.Core.Bool.{Bool, true, false, cond}
 use mathlib.Core.List.{List, List·Memᴰ}
 use mathlib.Core.Option.{some}
 use Prim.Native.Nat.{ℕ, suc, _<_, _≤_}
 use native.Mathlib.Nat.{le-refl}
 use native.Mathlib.Omega.{arith}
-use lib.ListN.{length, getD}
-use Rattle.semantics.specs.Automaton.{Move, Automaton, timers, modeAt, moveAt, Proper}
-use Rattle.semantics.specs.Region.{PricedRegion, WellFormed, top, start, leave, arrive, resetAll, charge, meetsAll, within}
+use lib.ListN.{length}
+use Rattle.semantics.specs.Automaton.{Automaton, timers, modeAt, moveAt, Proper}
+use Rattle.semantics.specs.Region.{PricedRegion, WellFormed, top, start, resetAll, meetsAll, within}
 use Rattle.semantics.specs.Run.{among, zeroed, BelowCeilings}
-use Rattle.semantics.specs.Chain.{Place, follow, begin, chain}
-use Rattle.semantics.specs.CornerPath.{SameShape, resetAllCorner}
+use Rattle.semantics.specs.Chain.{Place, begin, chain}
+use Rattle.semantics.specs.CornerPath.{resetAllCorner}
 use Rattle.semantics.specs.Regions.Lists.{replicate-zero}
-use Rattle.semantics.specs.Regions.Cases.{lingered, linger-empty}
+use Rattle.semantics.specs.Regions.Cases.{linger-empty}
 use Rattle.semantics.specs.Regions.Lengths.{start-timers, start-prices, leave-timers, arrive-timers, resetAll-timers, charge-timers}
 use Rattle.semantics.specs.Regions.WellFormed.{start-well-formed, leave-well-formed, arrive-well-formed, linger-well-formed, resetAll-well-formed, charge-well-formed}
 use Rattle.semantics.specs.Regions.Points.{pointOf}

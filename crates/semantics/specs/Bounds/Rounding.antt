@@ -1,18 +1,18 @@
 -- A run rounded at a phase: at the phase ψ each timer whose fraction is above ψ is taken up to the next whole minute, and each other down.
 -- That is a corner of the region in which the run is, and as time goes on and the phase with it, the corners are those of a chain.
 -- Assumes nothing.
-use mathlib.Core.Path.{_≡_, refl, ap, _∙_, sym, subst}
+use mathlib.Core.Path.{_≡_, refl, ap, _∙_}
 use mathlib.Core.Logic.{⊎-elim}
 use mathlib.Core.List.{List, [], _∷_, _++_}
 use mathlib.Core.Option.{some}
-use Prim.Native.Nat.{ℕ, zero, suc, pred, _+_, _*_, _<_, _≤_}
+use Prim.Native.Nat.{ℕ, zero, suc, pred, _+_, _<_, _≤_}
 use native.Mathlib.Decide.{ℕ-discrete}
 use native.Mathlib.Omega.{arith}
-use lib.ListN.{length, getD}
-use Rattle.semantics.specs.Automaton.{Automaton, timers, modeAt, moveAt, Proper}
+use lib.ListN.{length}
+use Rattle.semantics.specs.Automaton.{Automaton, timers, modeAt, Proper}
 use Rattle.semantics.specs.Region.{PricedRegion, WellFormed, count, top, leave, arrive}
 use Rattle.semantics.specs.Run.{Stays}
-use Rattle.semantics.specs.Chain.{Place, chain}
+use Rattle.semantics.specs.Chain.{chain}
 use Rattle.semantics.specs.Regions.Cases.{lingered, zero-cases}
 use Rattle.semantics.specs.Regions.Lengths.{leave-timers, leave-top, arrive-timers, arrive-top}
 use Rattle.semantics.specs.Regions.WellFormed.{leave-well-formed, arrive-well-formed}
@@ -20,7 +20,7 @@ use Rattle.semantics.specs.Bounds.Inside.{Inside, later, inside-shape, i
 use Rattle.semantics.specs.Bounds.Prices.{price, leave-price, leave-last, linger-last, arrive-price}
 use Rattle.semantics.specs.Bounds.Sides.{Sides}
 use Rattle.semantics.specs.Bounds.Stays.{stays-at}
-use Rattle.semantics.specs.Bounds.Steps.{rateAt, Stepped, leaves, arrives, lingers, chain-snoc}
+use Rattle.semantics.specs.Bounds.Steps.{leaves, arrives, lingers, chain-snoc}
 use Rattle.semantics.specs.Bounds.Shapes.{shape-top, shape-linger}
 use Rattle.semantics.specs.Bounds.Reached.{Reached, chain-reached}
 

@@ -4,24 +4,21 @@
 use mathlib.Core.Path.{_≡_, refl, ap, _∙_, sym, subst, subst₂, fun-ext}
 use mathlib.Core.Bool.{Bool, true, false, cond}
 use mathlib.Core.List.{List, [], _∷_, _++_, List·Memᴰ·head}
-use mathlib.Core.Option.{some}
 use Prim.Native.Nat.{ℕ, zero, suc, pred, _+_, _*_, _<_, _≤_}
-use native.Mathlib.Nat.{mul-assoc}
 use native.Mathlib.Omega.{arith}
 use lib.ListN.{length}
 use Rattle.semantics.specs.Automaton.{Automaton, timers, modeAt, moveAt, Proper}
-use Rattle.semantics.specs.Region.{PricedRegion, WellFormed, top, start, resetAll}
-use Rattle.semantics.specs.Run.{State, initial, Act, wait, move, among, zeroed, after, AllHold, Stays, Allowed, AllAllowed, final, chargeFrom, charge}
-use Rattle.semantics.specs.Chain.{Place, chain, follow, begin}
+use Rattle.semantics.specs.Region.{start}
+use Rattle.semantics.specs.Run.{State, initial, Act, wait, move, among, zeroed, after, AllHold, Stays, AllAllowed, final, chargeFrom, charge}
+use Rattle.semantics.specs.Chain.{chain, follow}
 use Rattle.semantics.specs.CornerPath.{resetAllCorner}
 use Rattle.semantics.specs.Regions.Lengths.{start-prices}
-use Rattle.semantics.specs.Bounds.Inside.{Inside}
 use Rattle.semantics.specs.Bounds.Prices.{price}
 use Rattle.semantics.specs.Bounds.Sides.{Sides, sides-resets}
 use Rattle.semantics.specs.Bounds.Stays.{Admits, guard-at, stays-at, holds-double, stays-double, stays-between, start-stays}
 use Rattle.semantics.specs.Bounds.Steps.{movedBy, moves, chain-snoc}
 use Rattle.semantics.specs.Bounds.Shapes.{shape-top, shape-charge}
-use Rattle.semantics.specs.Bounds.Reached.{Reached, chain-reached, start-inside, moved-to, moved-inside, moved-well-formed, moved-sized}
+use Rattle.semantics.specs.Bounds.Reached.{chain-reached, start-inside, moved-to, moved-inside, moved-well-formed, moved-sized}
 use Rattle.semantics.specs.Bounds.Flow.{move-flow}
 use Rattle.semantics.specs.Bounds.Rounding.{Rounded}
 use Rattle.semantics.specs.Bounds.Ticks.{tick-rounded, tick-round}

@@ -1,22 +1,21 @@
 -- Prices influence neither whether a step is allowed nor the shape of the region that it leads to.
 -- Assumes nothing.
-use mathlib.Core.Path.{_≡_, refl, ap, ap₂, _∙_, sym, subst, subst₂}
-use mathlib.Core.Bool.{Bool, true, false, _&&_}
+use mathlib.Core.Path.{_≡_, refl, ap, ap₂, _∙_, sym, subst}
+use mathlib.Core.Bool.{_&&_}
 use mathlib.Core.Logic.{⊎-elim}
 use mathlib.Core.List.{List, [], _∷_, map}
 use mathlib.Core.Option.{some, Option·some-injective}
-use Prim.Native.Nat.{ℕ, zero, suc, pred, _<_}
+use Prim.Native.Nat.{ℕ, zero, suc, pred}
 use native.Mathlib.Nat.{suc-inj}
 use native.Mathlib.Omega.{arith}
-use lib.ListN.{length, getD, set, length-set}
+use lib.ListN.{length, length-set}
 use Rattle.semantics.specs.Condition.{Condition}
 use Rattle.semantics.specs.Automaton.{Automaton, modeAt, moveAt}
-use Rattle.semantics.specs.Region.{PricedRegion, WellFormed, count, top, alone, merge, leave, arrive, reset, resetAll, charge, meets, meetsAll, withinFrom, within}
-use Rattle.semantics.specs.Chain.{Place, step, follow}
+use Rattle.semantics.specs.Region.{PricedRegion, top, merge, leave, arrive, reset, resetAll, charge, meets, meetsAll, withinFrom, within}
+use Rattle.semantics.specs.Chain.{Place, follow}
 use Rattle.semantics.specs.CornerPath.{SameShape, SamePlace}
 use Rattle.semantics.specs.Regions.Cases.{lingered, resetAlone, resetJoined, reset-alone, reset-joined, alone-cases}
-use Rattle.semantics.specs.Regions.Lengths.{leave-prices, arrive-prices, charge-prices, reset-alone-prices, reset-joined-prices, reset-timers}
-use Rattle.semantics.specs.Regions.WellFormed.{reset-well-formed}
+use Rattle.semantics.specs.Regions.Lengths.{leave-prices, arrive-prices, charge-prices}
 use Rattle.semantics.specs.Bounds.Stays.{Admits}
 use Rattle.semantics.specs.Bounds.Steps.{rateAt, movedBy, Stepped, leaves, arrives, lingers, idles, moves, step-view, view-step, follow-first, follow-cons}
 

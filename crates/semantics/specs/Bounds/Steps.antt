@@ -1,17 +1,16 @@
 -- One step of a chain by its cases, and chains one step longer.
 -- Assumes nothing.
 use mathlib.Core.Path.{_≡_, refl, ap, _∙_, sym, subst}
-use mathlib.Core.Bool.{Bool, true, false, cond, _&&_, true≢false}
+use mathlib.Core.Bool.{Bool, true, false, cond}
 use mathlib.Core.Logic.{⊎-elim}
 use mathlib.Core.List.{List, [], _∷_, _++_}
 use mathlib.Core.Option.{Option, none, some, Option·some-injective, Option·none-ne-some}
 use Prim.Native.Nat.{ℕ, _<_}
-use native.Mathlib.Omega.{arith}
 use borrow.Author.Tests.{eqb-true, eq-eqb, ltb-true, lt-ltb}
 use lib.Dec.{ltb, eqb}
 use lib.ListN.{length}
-use Rattle.semantics.specs.Automaton.{Automaton, modeAt, moveAt, Proper}
-use Rattle.semantics.specs.Region.{PricedRegion, count, leave, arrive, delay, linger, resetAll, charge, meetsAll, within}
+use Rattle.semantics.specs.Automaton.{Automaton, modeAt, moveAt}
+use Rattle.semantics.specs.Region.{PricedRegion, count, leave, arrive, delay, linger, resetAll, charge, meetsAll}
 use Rattle.semantics.specs.Chain.{Place, onlyIf, delayStep, lingerStep, moveStep, step, follow, begin, chain}
 use Rattle.semantics.specs.Regions.Compare.{and-true-iff}
 use Rattle.semantics.specs.Regions.Cases.{zero-cases, delay-arrive, delay-leave, lingered, linger-empty, linger-same}

@@ -1,12 +1,10 @@
 -- A tick, a q-th of a minute, is two halves. Counted in 2q-ths, values are even before and after it, and odd half-way; so no timer comes to a
 -- whole minute in the first half, and none is on one when the second begins. The phases of a run are the odd numbers below 2q.
 -- Assumes nothing.
-use mathlib.Core.Path.{_≡_, refl, ap, _∙_, sym, subst}
+use mathlib.Core.Path.{_≡_, refl, ap, subst}
 use mathlib.Core.Logic.{⊎-elim}
-use Prim.Native.Nat.{ℕ, zero, suc, _+_, _*_, _<_, _≤_}
-use native.Mathlib.Decide.{ℕ-discrete}
+use Prim.Native.Nat.{ℕ, zero, suc, _+_, _*_, _<_}
 use native.Mathlib.Omega.{arith}
-use lib.ListN.{length, getD}
 use Rattle.semantics.specs.Automaton.{Automaton, modeAt, Proper}
 use Rattle.semantics.specs.Region.{PricedRegion, WellFormed, count, top}
 use Rattle.semantics.specs.Run.{Stays}

@@ -5,7 +5,7 @@ use mathlib.Core.Path.{_≡_, refl, ap, _∙_, sym, subst, subst₂}
 use mathlib.Core.Bool.{Bool, true, false, cond}
 use mathlib.Core.List.{List, [], _∷_, _++_, append-nil, append-assoc, List·Memᴰ·eq-of-singleton}
 use mathlib.Core.Option.{some, Option·some-injective}
-use Prim.Native.Nat.{ℕ, zero, suc, min, _+_, _*_, _<_, _≤_}
+use Prim.Native.Nat.{ℕ, suc, min, _+_, _*_, _<_, _≤_}
 use native.Mathlib.Nat.{mul-le-mul-left}
 use native.Mathlib.Decide.{ℕ-discrete, decLe}
 use native.Mathlib.Omega.{arith}
@@ -13,22 +13,21 @@ use borrow.Author.Tests.{lt-ltb}
 use lib.Dec.{ltb}
 use lib.ListN.{length, getD}
 use Rattle.semantics.specs.Automaton.{Automaton, timers, modeAt, moveAt, Proper}
-use Rattle.semantics.specs.Region.{PricedRegion, WellFormed, count, top, start, leave, arrive, meetsAll, within}
-use Rattle.semantics.specs.Run.{RunInto, charge}
+use Rattle.semantics.specs.Region.{PricedRegion, WellFormed, count, top, start, leave, arrive, meetsAll}
 use Rattle.semantics.specs.Chain.{Place, follow, begin, chain, movesOf}
 use Rattle.semantics.specs.CornerPath.{Edge}
-use Rattle.semantics.specs.Demand.{Near, Approached}
+use Rattle.semantics.specs.Demand.{Approached}
 use Rattle.semantics.specs.Regions.Cases.{lingered}
 use Rattle.semantics.specs.Regions.Groups.{top-pos}
 use Rattle.semantics.specs.Regions.Lengths.{prices-top, leave-top, arrive-top}
 use Rattle.semantics.specs.Bounds.Prices.{price, leave-price, leave-last, linger-price, linger-last, arrive-price}
 use Rattle.semantics.specs.Bounds.Stays.{Admits}
-use Rattle.semantics.specs.Bounds.Steps.{rateAt, movedBy, Stepped, leaves, arrives, lingers, idles, moves, step-view, follow-first}
+use Rattle.semantics.specs.Bounds.Steps.{movedBy, Stepped, leaves, arrives, lingers, idles, moves, step-view, follow-first}
 use Rattle.semantics.specs.Bounds.Shapes.{shape-top, shape-linger}
 use Rattle.semantics.specs.Bounds.Reached.{Reached, reached-begin, reached-step, moved-admits}
 use Rattle.semantics.specs.Bounds.Flow.{move-flow}
 use Rattle.semantics.specs.Bounds.Runs.{made-run}
-use Rattle.semantics.specs.Bounds.Approach.{ApproachAt, Approach, approach-start, approach-shape, approach-move}
+use Rattle.semantics.specs.Bounds.Approach.{Approach, approach-start, approach-shape, approach-move}
 use Rattle.semantics.specs.Bounds.ApproachDelay.{approach-leave, approach-arrive}
 use Rattle.semantics.specs.Bounds.ApproachPass.{approach-jump, approach-linger}
 

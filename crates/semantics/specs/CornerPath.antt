@@ -19,23 +19,23 @@ pub record Edge : Type 0 where
   pub corner : ℕ
   pub weight : ℕ
 
--- Delay, r0 not empty: every price stays, "and c0 + rate is added at the end".
-abbrev pub leaveEdges : ℕ → PricedRegion → ℕ → List Edge
-leaveEdges rate r zero = record { corner = 0; weight = 0 } ∷ record { corner = suc (top r); weight = rate } ∷ []
-leaveEdges rate r (suc j) = record { corner = suc j; weight = 0 } ∷ []
+-- Every corner keeps its price, and c0 + rate comes to a last corner.
+abbrev pub passEdges : ℕ → ℕ → ℕ → List Edge
+passEdges last rate zero = record { corner = 0; weight = 0 } ∷ record { corner = last; weight = rate } ∷ []
+passEdges last rate (suc j) = record { corner = suc j; weight = 0 } ∷ []
 
--- Delay, r0 empty: "c0 is dropped".
-abbrev pub arriveEdges : ℕ → List Edge
-arriveEdges zero = []
-arriveEdges (suc j) = record { corner = j; weight = 0 } ∷ []
+-- "c0 is dropped."
+abbrev pub dropEdges : ℕ → List Edge
+dropEdges zero = []
+dropEdges (suc j) = record { corner = j; weight = 0 } ∷ []
 
+-- Delay: where r0 is not empty "c0 + rate is added at the end", and where it is empty "c0 is dropped".
 abbrev pub delayEdges : ℕ → PricedRegion → ℕ → List Edge
-delayEdges rate r j = cond (noZero r) (arriveEdges j) (leaveEdges rate r j)
+delayEdges rate r j = cond (noZero r) (dropEdges j) (passEdges (suc (top r)) rate j)
 
 -- "Linger, r0 empty: ck becomes the smaller of ck and c0 + rate. Otherwise nothing changes."
 abbrev pub lingerEdges : ℕ → PricedRegion → ℕ → List Edge
-lingerEdges rate r zero = record { corner = 0; weight = 0 } ∷ cond (noZero r) (record { corner = top r; weight = rate } ∷ []) []
-lingerEdges rate r (suc j) = record { corner = suc j; weight = 0 } ∷ []
+lingerEdges rate r j = cond (noZero r) (passEdges (top r) rate j) (record { corner = j; weight = 0 } ∷ [])
 
 -- Reset of one timer: "If it was alone in ri, i at least 1, the prices c(k-i) and c(k-i+1) become one": the corners above k - i go down by one.
 abbrev pub resetCorner : ℕ → PricedRegion → ℕ → ℕ

@@ -4,7 +4,7 @@
 use mathlib.Core.Path.{_≡_, refl, ap, _∙_, sym, subst}
 use mathlib.Core.List.{List, [], _∷_}
 use mathlib.Core.Option.{some, Option·some-injective}
-use Prim.Native.Nat.{ℕ, zero, suc, _+_, _≤_}
+use Prim.Native.Nat.{ℕ, _+_, _≤_}
 use native.Mathlib.Omega.{arith}
 use Rattle.semantics.specs.Automaton.{Automaton, modeAt, moveAt, Proper}
 use Rattle.semantics.specs.Region.{PricedRegion, WellFormed, top, reset}
@@ -19,12 +19,10 @@ use Rattle.semantics.specs.Bounds.Flow.{step-flow}
 -- The edges go by the shape.
 module _ (r s : PricedRegion) (e : SameShape r s) where
   delay-edges : (rate j : ℕ) → delayEdges rate r j ≡ delayEdges rate s j
-  delay-edges rate zero = rw (e .group, e .corners) refl
-  delay-edges rate (suc j) = rw (e .group) refl
+  delay-edges rate j = rw (e .group, e .corners) refl
 
   linger-edges : (rate j : ℕ) → lingerEdges rate r j ≡ lingerEdges rate s j
-  linger-edges rate zero = rw (e .group, e .corners) refl
-  linger-edges rate (suc j) = refl
+  linger-edges rate j = rw (e .group, e .corners) refl
 
   reset-corner : (x j : ℕ) → resetCorner x r j ≡ resetCorner x s j
   reset-corner x j = rw (e .group, e .corners) refl

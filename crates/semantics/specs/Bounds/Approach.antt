@@ -12,20 +12,20 @@ use Rattle.semantics.specs.Automaton.{Automaton, timers, modeAt, moveAt,
 use Rattle.semantics.specs.Region.{PricedRegion, WellFormed, top, start, resetAll, meetsAll}
 use Rattle.semantics.specs.Run.{among, zeroed}
 use Rattle.semantics.specs.CornerPath.{resetAllCorner, SameShape}
-use Rattle.semantics.specs.Bounds.Inside.{Inside, inside-shape}
+use Rattle.semantics.specs.Bounds.Inside.{Inside, inside-shape, start-inside}
 use Rattle.semantics.specs.Bounds.Reset.{ResetTo}
 use Rattle.semantics.specs.Bounds.Sides.{Sides, sides-resets}
 use Rattle.semantics.specs.Bounds.Stays.{Admits, guard-at, stays-at}
 use Rattle.semantics.specs.Bounds.Steps.{movedBy}
 use Rattle.semantics.specs.Bounds.Shapes.{shape-top, shape-charge}
-use Rattle.semantics.specs.Bounds.Reached.{start-inside, moved-to, moved-inside, moved-well-formed, moved-sized}
-use Rattle.semantics.specs.Bounds.Runs.{Made, made-none, made-wait, made-move}
+use Rattle.semantics.specs.Bounds.Moved.{moved-to, moved-inside, moved-well-formed, moved-sized}
+use Rattle.semantics.specs.Bounds.Runs.{RunTo, run-none, run-wait, run-move}
 
 -- A run in q-ths of these moves into mode l, near corner j of the region r: group i is σ times `offset i` from the corner.
 pub record ApproachAt (a : Automaton) (moves : List ℕ) (l : ℕ) (r : PricedRegion) (j w : ℕ) (offset : ℕ → ℕ) (extra σ q : ℕ) : Type 0 where
   pub v : ℕ → ℕ
   pub S : ℕ
-  pub made : Made a q l v S moves
+  pub run : RunTo a q l v S moves
   pub fraction : ℕ → ℕ
   pub inside : Inside q v fraction r
   pub sides : Sides (top r) j (λ i. fraction i ≡ σ * offset i) (λ i. fraction i + σ * offset i ≡ q)
@@ -53,7 +53,7 @@ module _ (a : Automaton) (ok : Proper a) where
     runs = λ σ q h b. record {
       v = λ x. 0;
       S = 0;
-      made = made-none a q;
+      run = run-none a q;
       fraction = λ i. i;
       inside = start-inside (timers a) q (omega arith);
       sides = record { down = λ i c k. low σ i (omega arith); up = λ i c k. absurd (omega arith) };
@@ -77,7 +77,7 @@ module _ (a : Automaton) (ok : Proper a) where
         record {
           v = u .v;
           S = u .S;
-          made = u .made;
+          run = u .run;
           fraction = u .fraction;
           inside = inside-shape q (u .v) (u .fraction) r s e (u .inside);
           sides = record {
@@ -111,7 +111,7 @@ module _ (a : Automaton) (ok : Proper a) where
         record {
           v = v′;
           S = u .S + q * moveAt a e .price;
-          made = made-move a q l (u .v) (u .S) moves (u .made) e i o guard target;
+          run = run-move a q l (u .v) (u .S) moves (u .run) e i o guard target;
           fraction = λ i. u .fraction (to .old i);
           inside = p;
           sides = record {
@@ -138,7 +138,7 @@ pub approach-wait :
 approach-wait a ok moves l s ws n t {q = q} u d f p j′ w′ o′ x′ σ′ sides charged = record {
   v = λ y. u .v y + d;
   S = u .S + d * modeAt a l .rate;
-  made = made-wait a q l (u .v) (u .S) moves (u .made) d (stays-at a ok s ws n q _ f p l .0 t);
+  run = run-wait a q l (u .v) (u .S) moves (u .run) d (stays-at a ok s ws n q _ f p l .0 t);
   fraction = f;
   inside = p;
   sides = sides;

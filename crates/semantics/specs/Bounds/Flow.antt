@@ -1,10 +1,9 @@
 -- Prices pass along edges: after a step, the price of a corner is the least sum of a price before it and the weight of an edge that leads there.
 -- Assumes nothing.
-use mathlib.Core.Path.{_≡_, refl, ap, _∙_, sym, subst, fun-ext}
+use mathlib.Core.Path.{_≡_, refl, sym, subst, fun-ext}
 use mathlib.Core.Logic.{⊎-elim}
 use mathlib.Core.List.{List, [], _∷_, List·Memᴰ, List·Memᴰ·head, List·Memᴰ·tail, List·Memᴰ·not-nil, List·Memᴰ·cases-cons, List·Memᴰ·eq-of-singleton}
 use Prim.Native.Nat.{ℕ, zero, suc, _+_, _≤_}
-use native.Mathlib.Decide.{decLe, ℕ-discrete}
 use native.Mathlib.Omega.{arith}
 use borrow.Author.Tests.{eq-eqb, ne-eqb, lt-ltb}
 use lib.ListN.{length}
@@ -16,11 +15,12 @@ use Rattle.semantics.specs.CornerPath.{Edge, passEdges, dropEdges, moveE
 use Rattle.semantics.specs.Regions.Cases.{lingered}
 use Rattle.semantics.specs.Regions.Lengths.{leave-top, arrive-top}
 use Rattle.semantics.specs.Regions.Groups.{top-pos}
-use Rattle.semantics.specs.Bounds.Prices.{price, leave-price, leave-last, linger-price, linger-last, arrive-price, charge-price}
+use Rattle.semantics.specs.Bounds.Prices.{price, leave-price, leave-last, linger-last, linger-least, PassedFrom, kept, passed, leave-source, linger-source, arrive-price, charge-price}
 use Rattle.semantics.specs.Bounds.Reset.{ResetTo}
 use Rattle.semantics.specs.Bounds.Steps.{rateAt, movedBy, Stepped, leaves, arrives, lingers, idles, moves}
 use Rattle.semantics.specs.Bounds.Shapes.{shape-top, shape-linger, shape-charge}
-use Rattle.semantics.specs.Bounds.Reached.{Reached, reset-well-formed, moved-to}
+use Rattle.semantics.specs.Bounds.Moved.{reset-well-formed, moved-to}
+use Rattle.semantics.specs.Bounds.Reached.{Reached}
 
 -- A price after the step, at corner i, is the sum of a price before it and the weight of an edge that leads to i.
 pub record Incoming (r : PricedRegion) (out : ℕ → List Edge) (i c : ℕ) : Type 0 where
@@ -52,11 +52,7 @@ keeps j = record { corner = j; weight = 0 }
 abbrev passes : ℕ → ℕ → Edge
 passes last rate = record { corner = last; weight = rate }
 
--- A price of s is that of its corner in r, or that of corner 0 and the rate.
-data PassedFrom (r s : PricedRegion) (last rate i : ℕ) : Type 0 where
-  kept : i ≤ top r → price s i ≡ price r i → PassedFrom r s last rate i
-  passed : i ≡ last → price s i ≡ price r 0 + rate → PassedFrom r s last rate i
-
+-- Delay out of r0, and linger where r0 is empty.
 pass-flow :
     (r s : PricedRegion) (last rate : ℕ) → ((j : ℕ) → j ≤ top r → Outgoing r s j (keeps j)) → Outgoing r s 0 (passes last rate)
     → ((i : ℕ) → i ≤ top s → PassedFrom r s last rate i) → Flow r s (passEdges last rate)
@@ -84,38 +80,22 @@ pass-flow r s last rate keep pass source = record { attained = λ i h. attained 
     least (suc j) h e m = subst (Outgoing r s (suc j)) (sym (List·Memᴰ·eq-of-singleton m)) (keep (suc j) h)
 
 module _ (r : PricedRegion) (w : WellFormed r) (rate : ℕ) where
-  -- Delay out of r0.
   leave-flow : Flow r (leave rate r) (passEdges (suc (top r)) rate)
   leave-flow =
       pass-flow r (leave rate r) (suc (top r)) rate
       (λ j h. record { there = omega (arith, leave-top r w rate); least = omega (arith, leave-price r w rate j h) })
       (record { there = omega (arith, leave-top r w rate); least = omega (arith, leave-last r w rate) })
-      (λ i h. source i (omega (arith, leave-top r w rate)) (ℕ-discrete i (suc (top r))))
-    where
-      source : (i : ℕ) → i ≤ suc (top r) → Dec (i ≡ suc (top r)) → PassedFrom r (leave rate r) (suc (top r)) rate i
-      source i h (yes e) = passed e (ap (price (leave rate r)) e ∙ leave-last r w rate)
-      source i h (no n) = kept (omega arith) (leave-price r w rate i (omega arith))
+      (λ i h. leave-source r w rate i (omega (arith, leave-top r w rate)))
 
-  -- Linger where r0 is empty.
   linger-flow : Flow r (lingered rate r) (passEdges (top r) rate)
   linger-flow =
       pass-flow r (lingered rate r) (top r) rate
-      (λ j h. record { there = omega (arith, same-top); least = omega (arith, least j (ℕ-discrete j (top r))) })
+      (λ j h. record { there = omega (arith, same-top); least = omega (arith, linger-least r w rate j) })
       (record { there = omega (arith, same-top); least = omega (arith, linger-last r w rate) })
-      (λ i h. source i (omega (arith, same-top)) (ℕ-discrete i (top r)) (decLe (price r (top r)) (price r 0 + rate)))
+      (λ i h. linger-source r w rate i (omega (arith, same-top)))
     where
       same-top : top r ≡ top (lingered rate r)
       same-top = shape-top r (lingered rate r) (shape-linger rate r)
-
-      least : (j : ℕ) → Dec (j ≡ top r) → price (lingered rate r) j ≤ price r j
-      least j (yes e) = rw e (omega (arith, linger-last r w rate))
-      least j (no n) = omega (arith, linger-price r w rate j n)
-
-      source :
-          (i : ℕ) → i ≤ top r → Dec (i ≡ top r) → Dec (price r (top r) ≤ price r 0 + rate) → PassedFrom r (lingered rate r) (top r) rate i
-      source i h (no n) d = kept h (linger-price r w rate i n)
-      source i h (yes e) (yes d) = kept h (rw e (omega (arith, linger-last r w rate)))
-      source i h (yes e) (no d) = passed e (rw e (omega (arith, linger-last r w rate)))
 
 -- Linger where r0 holds a timer.
 idle-flow : (r : PricedRegion) → Flow r r (λ j. keeps j ∷ [])

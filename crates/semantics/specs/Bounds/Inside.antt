@@ -7,10 +7,11 @@ use native.Mathlib.Nat.{mul-add-div, div-eq-of-lt, mul-add-mod-self-left, mod-eq
 use native.Mathlib.Decide.{ℕ-discrete}
 use native.Mathlib.Omega.{arith}
 use lib.ListN.{length, getD}
-use Rattle.semantics.specs.Region.{PricedRegion, WellFormed, count, top, leave, arrive}
+use Rattle.semantics.specs.Region.{PricedRegion, WellFormed, count, top, start, leave, arrive}
 use Rattle.semantics.specs.Point.{Point}
 use Rattle.semantics.specs.CornerPath.{SameShape}
-use Rattle.semantics.specs.Regions.Lengths.{leave-top, arrive-timers, arrive-top, prices-top}
+use Rattle.semantics.specs.Regions.Lists.{replicate-zero}
+use Rattle.semantics.specs.Regions.Lengths.{start-prices, leave-top, arrive-timers, arrive-top, prices-top}
 use Rattle.semantics.specs.Regions.Points.{pointOf}
 use Rattle.semantics.specs.Bounds.Entries.{raised, leave-group, Arrived, on, off, arrived}
 
@@ -149,4 +150,14 @@ inside-own r w = record {
   rising = λ i j h l. h;
   small = λ i l. omega arith;
   value = λ x h. refl;
+}
+
+-- The one point of the start region.
+pub start-inside : (n q : ℕ) → 0 < q → Inside q (λ x. 0) (λ i. i) (start n)
+unfolding start
+start-inside n q h = record {
+  ground = refl;
+  rising = λ i j h l. h;
+  small = λ i l. omega (arith, start-prices n);
+  value = λ x h. rw (replicate-zero n x) (omega arith);
 }

@@ -1,52 +1,20 @@
 -- From two places of one shape the same steps have the same edges, so that prices compare after the steps as they do before them:
 -- lower prices lead to lower prices, and prices that are all C higher lead to prices that are all C higher.
 -- Assumes nothing.
-use mathlib.Core.Path.{_≡_, refl, ap, _∙_, sym, subst}
+use mathlib.Core.Path.{_≡_, ap, _∙_, sym, subst}
 use mathlib.Core.List.{List, [], _∷_}
 use mathlib.Core.Option.{some, Option·some-injective}
 use Prim.Native.Nat.{ℕ, _+_, _≤_}
 use native.Mathlib.Omega.{arith}
-use Rattle.semantics.specs.Automaton.{Automaton, modeAt, moveAt, Proper}
-use Rattle.semantics.specs.Region.{PricedRegion, WellFormed, top, reset}
+use Rattle.semantics.specs.Automaton.{Automaton, Proper}
+use Rattle.semantics.specs.Region.{top}
 use Rattle.semantics.specs.Chain.{Place, follow}
-use Rattle.semantics.specs.CornerPath.{delayEdges, lingerEdges, resetCorner, resetAllCorner, edges, SameShape, SamePlace}
+use Rattle.semantics.specs.CornerPath.{SamePlace}
 use Rattle.semantics.specs.Bounds.Prices.{price}
 use Rattle.semantics.specs.Bounds.Steps.{Stepped, step-view, view-step, follow-first}
-use Rattle.semantics.specs.Bounds.Shapes.{shape-sym, shape-top, shape-reset, shape-admits, step-alike, follow-alike}
+use Rattle.semantics.specs.Bounds.Shapes.{shape-sym, shape-top, shape-well-formed, shape-admits, edges-alike, step-alike, follow-alike}
 use Rattle.semantics.specs.Bounds.Reached.{Reached, reached-step}
 use Rattle.semantics.specs.Bounds.Flow.{step-flow}
-
--- The edges go by the shape.
-module _ (r s : PricedRegion) (e : SameShape r s) where
-  delay-edges : (rate j : ℕ) → delayEdges rate r j ≡ delayEdges rate s j
-  delay-edges rate j = rw (e .group, e .corners) refl
-
-  linger-edges : (rate j : ℕ) → lingerEdges rate r j ≡ lingerEdges rate s j
-  linger-edges rate j = rw (e .group, e .corners) refl
-
-  reset-corner : (x j : ℕ) → resetCorner x r j ≡ resetCorner x s j
-  reset-corner x j = rw (e .group, e .corners) refl
-
-resets-corner : (xs : List ℕ) (r s : PricedRegion) → SameShape r s → (j : ℕ) → resetAllCorner xs r j ≡ resetAllCorner xs s j
-unfolding resetAllCorner
-resets-corner [] r s e j = refl
-resets-corner (x ∷ xs) r s e j = resets-corner xs (reset x r) (reset x s) (shape-reset r s e x) _ ∙ ap (resetAllCorner xs (reset x s)) (reset-corner r s e x j)
-
-pub edges-alike : (a : Automaton) (byte : ℕ) (p s : Place) → SamePlace p s → (j : ℕ) → edges a byte p j ≡ edges a byte s j
-unfolding edges
-edges-alike a byte p s e j =
-    rw (← e .mode, ← delay-edges (p .region) (s .region) (e .region) (modeAt a (p .mode) .rate) j, ← linger-edges (p .region) (s .region) (e .region) (modeAt a (p .mode) .rate) j, ← resets-corner (moveAt a byte .resets) (p .region) (s .region) (e .region) j)
-    refl
-
--- A region of the shape of a well-formed one is well-formed, and so with places.
-shape-well-formed : (r s : PricedRegion) → SameShape r s → WellFormed r → WellFormed s
-shape-well-formed r s e w = record {
-  some = rw (← e .whole) (w .some);
-  paired = rw (← e .whole, ← e .group) (w .paired);
-  priced = rw (← e .corners) (w .priced);
-  below = λ i. rw (← e .group, ← e .corners) (w .below i);
-  full = λ g h l. rw (← e .group) (w .full g h (rw (← e .corners) at l));
-}
 
 module _ (a : Automaton) where
   pub reached-alike : (p s : Place) → SamePlace p s → Reached a p → Reached a s
@@ -101,5 +69,7 @@ module _ (a : Automaton) where
         let o = follow-alike a bytes p s p′ e f in
         let back : SamePlace s p = record { mode = sym (e .mode); region = shape-sym _ _ (e .region) } in
         let low = follow-compares C 0 bytes p s p′ (o .0) h e (λ j b. omega (arith, higher j b)) f (o .1) in
-        let high = follow-compares 0 C bytes s p (o .0) p′ (reached-alike p s e h) back (λ j b. omega (arith, higher j (omega (arith, shape-top _ _ (e .region))))) (o .1) f in
+        let high =
+        follow-compares 0 C bytes s p (o .0) p′ (reached-alike p s e h) back
+        (λ j b. omega (arith, higher j (omega (arith, shape-top _ _ (e .region))))) (o .1) f in
         (o .0, o .1, o .2, λ i b. omega (arith, low i b, high i (omega (arith, shape-top _ _ (o .2 .region)))))

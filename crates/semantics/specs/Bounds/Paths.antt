@@ -20,7 +20,7 @@ use Rattle.semantics.specs.Bounds.Reached.{Reached, reached-begin, reach
 use Rattle.semantics.specs.Bounds.Flow.{step-flow}
 
 -- A corner path along the steps from a corner of p to corner i of p′, which explains the price of i.
-pub record Explained (a : Automaton) (bytes : List ℕ) (p p′ : Place) (i : ℕ) : Type 0 where
+pub record PricePath (a : Automaton) (bytes : List ℕ) (p p′ : Place) (i : ℕ) : Type 0 where
   pub from : ℕ
   pub there : from ≤ top (p .region)
   pub weight : ℕ
@@ -28,17 +28,17 @@ pub record Explained (a : Automaton) (bytes : List ℕ) (p p′ : Place) (i : �
   pub sum : price (p′ .region) i ≡ price (p .region) from + weight
 
 -- A corner path leads along allowed steps to a corner whose price is at most that of the corner where it begins and its weight.
-pub record Bounded (a : Automaton) (bytes : List ℕ) (p : Place) (j : ℕ) (p′ : Place) (i w : ℕ) : Type 0 where
+pub record PathBound (a : Automaton) (bytes : List ℕ) (p : Place) (j : ℕ) (p′ : Place) (i w : ℕ) : Type 0 where
   pub found : follow a bytes p ≡ some p′
   pub there : i ≤ top (p′ .region)
   pub least : price (p′ .region) i ≤ price (p .region) j + w
 
 module _ (a : Automaton) (ok : Proper a) where
   pub follow-path :
-      (bytes : List ℕ) (p p′ : Place) → Reached a p → follow a bytes p ≡ some p′ → (i : ℕ) → i ≤ top (p′ .region) → Explained a bytes p p′ i
+      (bytes : List ℕ) (p p′ : Place) → Reached a p → follow a bytes p ≡ some p′ → (i : ℕ) → i ≤ top (p′ .region) → PricePath a bytes p p′ i
   unfolding follow
   follow-path [] p p′ r h i b =
-      subst (λ (u : Place). i ≤ top (u .region) → Explained a [] p u i) (Option·some-injective p p′ h)
+      subst (λ (u : Place). i ≤ top (u .region) → PricePath a [] p u i) (Option·some-injective p p′ h)
       (λ b. record { from = i; there = b; weight = 0; path = stop; sum = omega arith }) b
   follow-path (byte ∷ bytes) p p′ r h i b =
       let f = follow-first a byte bytes p p′ h in
@@ -53,11 +53,11 @@ module _ (a : Automaton) (ok : Proper a) where
         sum = omega (arith, o .sum, c .sum);
       }
 
-  bounded-step :
+  path-step :
       (byte : ℕ) (bytes : List ℕ) (p p₁ p′ : Place) (j i w : ℕ) → Reached a p → j ≤ top (p .region) → step a byte p ≡ some p₁ → (e : Edge)
-      → List·Memᴰ e (edges a byte p j) → (Reached a p₁ → e .corner ≤ top (p₁ .region) → Bounded a bytes p₁ (e .corner) p′ i w)
-      → Bounded a (byte ∷ bytes) p j p′ i (e .weight + w)
-  bounded-step byte bytes p p₁ p′ j i w r b s e m rest =
+      → List·Memᴰ e (edges a byte p j) → (Reached a p₁ → e .corner ≤ top (p₁ .region) → PathBound a bytes p₁ (e .corner) p′ i w)
+      → PathBound a (byte ∷ bytes) p j p′ i (e .weight + w)
+  path-step byte bytes p p₁ p′ j i w r b s e m rest =
       let v = step-view a p p₁ byte s in
       let c = step-flow a ok p r v .least j b e m in
       let o = rest (reached-step a ok byte p p₁ r v) (c .there) in
@@ -69,10 +69,10 @@ module _ (a : Automaton) (ok : Proper a) where
 
   pub path-follow :
       {bytes : List ℕ} {p p′ : Place} {j i w : ℕ} → CornerPath a bytes p j p′ i w → Reached a p → j ≤ top (p .region)
-      → Bounded a bytes p j p′ i w
+      → PathBound a bytes p j p′ i w
   unfolding follow
   path-follow stop = λ r b. record { found = refl; there = b; least = omega arith }
-  path-follow (along s e m c) = λ r b. bounded-step _ _ _ _ _ _ _ _ r b s e m (path-follow c)
+  path-follow (along s e m c) = λ r b. path-step _ _ _ _ _ _ _ _ r b s e m (path-follow c)
 
   -- Each corner price of a chain is the weight of a corner path along it.
   pub chain-path :
@@ -83,7 +83,7 @@ module _ (a : Automaton) (ok : Proper a) where
       let o = follow-path bytes (begin a) p (reached-begin a ok) h i (omega (arith, prices-top (p .region) (omega arith))) in
       subst₂ (λ (j w : ℕ). CornerPath a bytes (begin a) j p i w) (first o) (sym (o .sum ∙ total (o .from) (o .weight) (first o))) (o .path)
     where
-      first : (o : Explained a bytes (begin a) p i) → o .from ≡ 0
+      first : (o : PricePath a bytes (begin a) p i) → o .from ≡ 0
       first o = omega (arith, o .there, start-prices (timers a))
 
       total : (j w : ℕ) → j ≡ 0 → price (start (timers a)) j + w ≡ w

@@ -13,12 +13,14 @@ use Rattle.semantics.specs.Run.{State, initial, Act, wait, move, among, 
 use Rattle.semantics.specs.Chain.{chain, follow}
 use Rattle.semantics.specs.CornerPath.{resetAllCorner}
 use Rattle.semantics.specs.Regions.Lengths.{start-prices}
+use Rattle.semantics.specs.Bounds.Inside.{start-inside}
 use Rattle.semantics.specs.Bounds.Prices.{price}
 use Rattle.semantics.specs.Bounds.Sides.{Sides, sides-resets}
 use Rattle.semantics.specs.Bounds.Stays.{Admits, guard-at, stays-at, holds-double, stays-double, stays-between, start-stays}
 use Rattle.semantics.specs.Bounds.Steps.{movedBy, moves, chain-snoc}
 use Rattle.semantics.specs.Bounds.Shapes.{shape-top, shape-charge}
-use Rattle.semantics.specs.Bounds.Reached.{chain-reached, start-inside, moved-to, moved-inside, moved-well-formed, moved-sized}
+use Rattle.semantics.specs.Bounds.Moved.{moved-to, moved-inside, moved-well-formed, moved-sized}
+use Rattle.semantics.specs.Bounds.Reached.{chain-reached}
 use Rattle.semantics.specs.Bounds.Flow.{move-flow}
 use Rattle.semantics.specs.Bounds.Rounding.{Rounded}
 use Rattle.semantics.specs.Bounds.Ticks.{tick-rounded, tick-round}

@@ -1,4 +1,5 @@
--- Prices influence neither whether a step is allowed nor the shape of the region that it leads to.
+-- What goes by the shape of a region, and not by its prices: whether it is well-formed and meets conditions, the shapes to which operations lead,
+-- the edges of a step, whether a step is allowed, and the shape of the region to which it leads.
 -- Assumes nothing.
 use mathlib.Core.Path.{_≡_, refl, ap, ap₂, _∙_, sym, subst}
 use mathlib.Core.Bool.{_&&_}
@@ -11,9 +12,9 @@ use native.Mathlib.Omega.{arith}
 use lib.ListN.{length, length-set}
 use Rattle.semantics.specs.Condition.{Condition}
 use Rattle.semantics.specs.Automaton.{Automaton, modeAt, moveAt}
-use Rattle.semantics.specs.Region.{PricedRegion, top, merge, leave, arrive, reset, resetAll, charge, meets, meetsAll, withinFrom, within}
+use Rattle.semantics.specs.Region.{PricedRegion, WellFormed, top, merge, leave, arrive, reset, resetAll, charge, meets, meetsAll, withinFrom, within}
 use Rattle.semantics.specs.Chain.{Place, follow}
-use Rattle.semantics.specs.CornerPath.{SameShape, SamePlace}
+use Rattle.semantics.specs.CornerPath.{delayEdges, lingerEdges, resetCorner, resetAllCorner, edges, SameShape, SamePlace}
 use Rattle.semantics.specs.Regions.Cases.{lingered, resetAlone, resetJoined, reset-alone, reset-joined, alone-cases}
 use Rattle.semantics.specs.Regions.Lengths.{leave-prices, arrive-prices, charge-prices}
 use Rattle.semantics.specs.Bounds.Stays.{Admits}
@@ -42,6 +43,15 @@ shape-linger rate r = record { whole = refl; group = refl; corners = sym (length
 pub shape-charge : (price : ℕ) (r : PricedRegion) → SameShape r (charge price r)
 unfolding charge
 shape-charge price r = record { whole = refl; group = refl; corners = sym (charge-prices r price) }
+
+pub shape-well-formed : (r s : PricedRegion) → SameShape r s → WellFormed r → WellFormed s
+shape-well-formed r s e w = record {
+  some = rw (← e .whole) (w .some);
+  paired = rw (← e .whole, ← e .group) (w .paired);
+  priced = rw (← e .corners) (w .priced);
+  below = λ i. rw (← e .group, ← e .corners) (w .below i);
+  full = λ g h l. rw (← e .group) (w .full g h (rw (← e .corners) at l));
+}
 
 module _ (r s : PricedRegion) (e : SameShape r s) where
   pub shape-top : top r ≡ top s
@@ -86,7 +96,7 @@ module _ (r s : PricedRegion) (e : SameShape r s) where
     ceilings = sym (shape-within (a .ceilings)) ∙ t .ceilings;
   }
 
-  pub shape-reset : (x : ℕ) → SameShape (reset x r) (reset x s)
+  shape-reset : (x : ℕ) → SameShape (reset x r) (reset x s)
   shape-reset x =
       ⊎-elim (λ a. rw (reset-alone x r a, reset-alone x s (rw (e .group) at a)) closes)
       (λ a. rw (reset-joined x r a, reset-joined x s (rw (e .group) at a)) joins)
@@ -111,6 +121,35 @@ shape-move : (a : Automaton) (e : ℕ) (r s : PricedRegion) → SameShape r s �
 shape-move a e r s h =
     shape-trans _ _ _ (shape-sym _ _ (shape-charge (moveAt a e .price) (resetAll (moveAt a e .resets) r)))
     (shape-trans _ _ _ (shape-resets (moveAt a e .resets) r s h) (shape-charge (moveAt a e .price) (resetAll (moveAt a e .resets) s)))
+
+-- The edges of a step go by the shape.
+module _ (r s : PricedRegion) (e : SameShape r s) where
+  delay-edges : (rate j : ℕ) → delayEdges rate r j ≡ delayEdges rate s j
+  delay-edges rate j = rw (e .group, e .corners) refl
+
+  linger-edges : (rate j : ℕ) → lingerEdges rate r j ≡ lingerEdges rate s j
+  linger-edges rate j = rw (e .group, e .corners) refl
+
+  reset-corner : (x j : ℕ) → resetCorner x r j ≡ resetCorner x s j
+  reset-corner x j = rw (e .group, e .corners) refl
+
+resets-corner : (xs : List ℕ) (r s : PricedRegion) → SameShape r s → (j : ℕ) → resetAllCorner xs r j ≡ resetAllCorner xs s j
+unfolding resetAllCorner
+resets-corner [] r s e j = refl
+resets-corner (x ∷ xs) r s e j =
+    resets-corner xs (reset x r) (reset x s) (shape-reset r s e x) (resetCorner x r j)
+    ∙ ap (resetAllCorner xs (reset x s)) (reset-corner r s e x j)
+
+pub edges-alike : (a : Automaton) (byte : ℕ) (p s : Place) → SamePlace p s → (j : ℕ) → edges a byte p j ≡ edges a byte s j
+unfolding edges
+edges-alike a byte p s e j =
+    rw (
+      ← e .mode,
+      ← delay-edges (p .region) (s .region) (e .region) (modeAt a (p .mode) .rate) j,
+      ← linger-edges (p .region) (s .region) (e .region) (modeAt a (p .mode) .rate) j,
+      ← resets-corner (moveAt a byte .resets) (p .region) (s .region) (e .region) j,
+    )
+    refl
 
 -- From the place s the step of a byte leads to a place that differs from p′ at most in what its prices are.
 pub record StepsAlike (a : Automaton) (s : Place) (byte : ℕ) (p′ : Place) : Type 0 where

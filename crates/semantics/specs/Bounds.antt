@@ -6,10 +6,12 @@ pub mod Prices
 pub mod Gone
 pub mod Reset
 pub mod Resets
+pub mod Sides
 -- Conditions and ceilings, steps, places.
 pub mod Stays
 pub mod Steps
 pub mod Shapes
+pub mod Alike
 pub mod Moved
 pub mod Reached
 pub mod Nodes
@@ -18,7 +20,6 @@ pub mod Flow
 pub mod Paths
 pub mod Monotone
 -- The lower bound: runs rounded to chains.
-pub mod Sides
 pub mod Rounding
 pub mod Ticks
 pub mod Sum

@@ -14,11 +14,11 @@ use Rattle.semantics.specs.Run.{among, zeroed}
 use Rattle.semantics.specs.CornerPath.{resetAllCorner, SameShape}
 use Rattle.semantics.specs.Bounds.Inside.{Inside, inside-shape, start-inside}
 use Rattle.semantics.specs.Bounds.Reset.{ResetTo}
-use Rattle.semantics.specs.Bounds.Sides.{Sides, sides-resets}
+use Rattle.semantics.specs.Bounds.Sides.{Sides}
 use Rattle.semantics.specs.Bounds.Stays.{Admits, guard-at, stays-at}
 use Rattle.semantics.specs.Bounds.Steps.{movedBy}
-use Rattle.semantics.specs.Bounds.Shapes.{shape-top, shape-charge}
-use Rattle.semantics.specs.Bounds.Moved.{moved-to, moved-inside, moved-well-formed, moved-sized}
+use Rattle.semantics.specs.Bounds.Shapes.{shape-top}
+use Rattle.semantics.specs.Bounds.Moved.{moved-to, moved-top, moved-sides, moved-inside, moved-well-formed, moved-sized}
 use Rattle.semantics.specs.Bounds.Runs.{RunTo, run-none, run-wait, run-move}
 
 -- A run in q-ths of these moves into mode l, near corner j of the region r: group i is σ times `offset i` from the corner.
@@ -98,8 +98,8 @@ module _ (a : Automaton) (ok : Proper a) where
     offset = λ i. n .offset (to .old i);
     limit = n .limit;
     extra = n .extra;
-    there = omega (arith, to .there j (n .there), same-top);
-    bound = λ i h. n .bound (to .old i) (to .bounded i (omega (arith, same-top)));
+    there = omega (arith, to .there j (n .there), moved-top a ok e r wf sized);
+    bound = λ i h. n .bound (to .old i) (to .bounded i (omega (arith, moved-top a ok e r wf sized)));
     runs = λ σ q h b.
         let u = n .runs σ q h b in
         let v′ = zeroed (moveAt a e .resets) (u .v) in
@@ -107,26 +107,19 @@ module _ (a : Automaton) (ok : Proper a) where
         let guard = guard-at a ok r wf sized q (u .v) (u .fraction) (u .inside) e .0 g in
         let target =
         stays-at a ok (movedBy a e r) (moved-well-formed a ok e r wf sized) (moved-sized a ok e r wf sized) q v′ _ p (moveAt a e .target) .0 t in
-        let s = sides-resets _ _ _ _ to j (n .there) _ _ (u .sides) in
         record {
           v = v′;
           S = u .S + q * moveAt a e .price;
           run = run-move a q l (u .v) (u .S) moves (u .run) e i o guard target;
           fraction = λ i. u .fraction (to .old i);
           inside = p;
-          sides = record {
-            down = λ i c k. s .down i (omega (arith, same-top)) (omega (arith, same-top));
-            up = λ i c k. s .up i (omega (arith, same-top)) (omega (arith, same-top));
-          };
+          sides = moved-sides a ok e r wf sized j (n .there) _ _ (u .sides);
           charged = omega (arith, u .charged);
         };
   }
     where
       to : ResetTo (λ x. among x (moveAt a e .resets)) r (resetAll (moveAt a e .resets) r) (resetAllCorner (moveAt a e .resets) r)
       to = moved-to a ok e r wf sized
-
-      same-top : top (resetAll (moveAt a e .resets) r) ≡ top (movedBy a e r)
-      same-top = shape-top _ _ (shape-charge (moveAt a e .price) (resetAll (moveAt a e .resets) r))
 
 -- A run near a corner of r waits d, and is then near a corner of s, which its mode admits.
 pub approach-wait :

@@ -50,7 +50,8 @@ module _ (a : Automaton) (ok : Proper a) (moves : List ℕ) (l : ℕ) (r : Price
   -- Delay out of r0, the corner stays: a run at twice the scale waits σ.
   module _ (z : 0 < count 0 (r .group)) (t : Admits a l (leave (modeAt a l .rate) r)) where
     leave-run :
-        (j w : ℕ) (o : ℕ → ℕ) (M x σ q : ℕ) → j ≤ top r → ((i : ℕ) → i ≤ top r → o i < M) → 0 < σ → σ * (2 * M) ≤ q → ApproachAt a moves l r j w o x (2 * σ) q
+        (j w : ℕ) (o : ℕ → ℕ) (M x σ q : ℕ) → j ≤ top r → ((i : ℕ) → i ≤ top r → o i < M) → 0 < σ → σ * (2 * M) ≤ q
+        → ApproachAt a moves l r j w o x (2 * σ) q
         → ApproachAt a moves l (leave (modeAt a l .rate) r) j w (leaveOffset (top r) j o) (2 * x + modeAt a l .rate) σ q
     leave-run j w o M x σ q there bound pos large u =
         approach-wait a ok moves l (leave (modeAt a l .rate) r) (leave-well-formed r wf (modeAt a l .rate) z)
@@ -80,7 +81,9 @@ module _ (a : Automaton) (ok : Proper a) (moves : List ℕ) (l : ℕ) (r : Price
 
         down : (i : ℕ) → i ≤ suc (top r) → i + j ≤ suc (top r) → later (λ i. i) σ (u .fraction) i ≡ σ * leaveOffset (top r) j o i
         down zero b k = omega arith
-        down (suc i) b k = rw (side-down (top r) j i (2 * o i + 1) (pred (2 * o i)) (omega arith)) (omega (arith, u .sides .down i (omega arith) (omega arith)))
+        down (suc i) b k =
+            rw (side-down (top r) j i (2 * o i + 1) (pred (2 * o i)) (omega arith))
+            (omega (arith, u .sides .down i (omega arith) (omega arith)))
 
         up : (i : ℕ) → i ≤ suc (top r) → suc (top r) < i + j → later (λ i. i) σ (u .fraction) i + σ * leaveOffset (top r) j o i ≡ q
         up zero b k = absurd (omega arith)
@@ -113,7 +116,8 @@ module _ (a : Automaton) (ok : Proper a) (moves : List ℕ) (l : ℕ) (r : Price
         (j w : ℕ) (o : ℕ → ℕ) (x σ q : ℕ) → suc j ≤ top r → ApproachAt a moves l r (suc j) w o x σ q
         → ApproachAt a moves l (arrive r) j w (arriveOffset (top r) j o) (x + o (top r) * modeAt a l .rate) σ q
     arrive-run j w o x σ q there u =
-        approach-wait a ok moves l (arrive r) (arrive-well-formed r wf z) (arrive-timers r .whole ∙ sized) t u (σ * o (top r)) (later suc (σ * o (top r)) (u .fraction))
+        approach-wait a ok moves l (arrive r) (arrive-well-formed r wf z) (arrive-timers r .whole ∙ sized) t u (σ * o (top r))
+        (later suc (σ * o (top r)) (u .fraction))
         (inside-arrive r wf q (u .v) (u .fraction) (u .inside) (σ * o (top r)) _ (λ x. refl) z (u .sides .up (top r) (omega arith) (omega arith)))
         j w (arriveOffset (top r) j o) (x + o (top r) * modeAt a l .rate) σ
         (record {

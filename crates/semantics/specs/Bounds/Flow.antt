@@ -18,8 +18,8 @@ use Rattle.semantics.specs.Regions.Groups.{top-pos}
 use Rattle.semantics.specs.Bounds.Prices.{price, leave-price, leave-last, linger-last, linger-least, PassedFrom, kept, passed, leave-source, linger-source, arrive-price, charge-price}
 use Rattle.semantics.specs.Bounds.Reset.{ResetTo}
 use Rattle.semantics.specs.Bounds.Steps.{rateAt, movedBy, Stepped, leaves, arrives, lingers, idles, moves}
-use Rattle.semantics.specs.Bounds.Shapes.{shape-top, shape-linger, shape-charge}
-use Rattle.semantics.specs.Bounds.Moved.{reset-well-formed, moved-to}
+use Rattle.semantics.specs.Bounds.Shapes.{shape-top, shape-linger}
+use Rattle.semantics.specs.Bounds.Moved.{reset-well-formed, moved-to, moved-top}
 use Rattle.semantics.specs.Bounds.Reached.{Reached}
 
 -- A price after the step, at corner i, is the sum of a price before it and the weight of an edge that leads to i.
@@ -127,16 +127,13 @@ arrive-flow r w empty = record { attained = attained; least = least }
 -- A move: resets, and its price on every corner.
 module _ (a : Automaton) (ok : Proper a) (e : ℕ) (r : PricedRegion) (w : WellFormed r) (sized : length (r .whole) ≡ timers a) where
   pub move-flow : Flow r (movedBy a e r) (moveEdges (moveAt a e) r)
-  move-flow = record { attained = λ i h. attained i (omega (arith, same-top)); least = least }
+  move-flow = record { attained = λ i h. attained i (omega (arith, moved-top a ok e r w sized)); least = least }
     where
       s : PricedRegion
       s = resetAll (moveAt a e .resets) r
 
       to : ResetTo (λ x. among x (moveAt a e .resets)) r s (resetAllCorner (moveAt a e .resets) r)
       to = moved-to a ok e r w sized
-
-      same-top : top s ≡ top (movedBy a e r)
-      same-top = shape-top s (movedBy a e r) (shape-charge (moveAt a e .price) s)
 
       charged : (i : ℕ) → i ≤ top s → price (movedBy a e r) i ≡ price s i + moveAt a e .price
       charged i h = charge-price s (reset-well-formed a ok e r w sized) (moveAt a e .price) i h
@@ -156,7 +153,7 @@ module _ (a : Automaton) (ok : Proper a) (e : ℕ) (r : PricedRegion) (w : WellF
       least : (j : ℕ) → j ≤ top r → (d : Edge) → List·Memᴰ d (moveEdges (moveAt a e) r j) → Outgoing r (movedBy a e r) j d
       least j h d n =
           subst (Outgoing r (movedBy a e r) j) (sym (List·Memᴰ·eq-of-singleton n))
-          (record { there = omega (arith, to .there j h, same-top); least = omega (arith, charged _ (to .there j h), to .least j h) })
+          (record { there = omega (arith, to .there j h, moved-top a ok e r w sized); least = omega (arith, charged _ (to .there j h), to .least j h) })
 
 -- Every allowed step.
 module _ (a : Automaton) (ok : Proper a) (p : Place) (h : Reached a p) where

@@ -19,11 +19,11 @@ lower a ok l C floor q ts run =
       arith,
       d .total,
       sum-at-least (d .weight) C q (λ φ h.
-      let e = d .rounded φ h in
-      let n = chain-reached a ok (e .steps) _ (e .found) .well-formed .priced in
-      omega (
-        arith,
-        e .cheap,
-        floor (e .steps) _ (e .found) (run .arrives) (e .corner) (omega (arith, e .there, prices-top (e .region) n)),
-      )),
+          let e = d .rounded φ h in
+          let n = chain-reached a ok (e .steps) _ (e .found) .well-formed .priced in
+          omega (
+            arith,
+            e .cheap,
+            floor (e .steps) _ (e .found) (run .arrives) (e .corner) (omega (arith, e .there, prices-top (e .region) n)),
+          )),
     )

@@ -12,7 +12,8 @@ use Rattle.semantics.specs.Chain.{Place, follow}
 use Rattle.semantics.specs.CornerPath.{SamePlace}
 use Rattle.semantics.specs.Bounds.Prices.{price}
 use Rattle.semantics.specs.Bounds.Steps.{Stepped, step-view, view-step, follow-first}
-use Rattle.semantics.specs.Bounds.Shapes.{shape-sym, shape-top, shape-well-formed, shape-admits, edges-alike, step-alike, follow-alike}
+use Rattle.semantics.specs.Bounds.Shapes.{shape-sym, shape-top, shape-well-formed, shape-admits}
+use Rattle.semantics.specs.Bounds.Alike.{edges-alike, step-alike, follow-alike}
 use Rattle.semantics.specs.Bounds.Reached.{Reached, reached-step}
 use Rattle.semantics.specs.Bounds.Flow.{step-flow}
 

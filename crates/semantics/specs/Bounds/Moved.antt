@@ -20,15 +20,16 @@ use Rattle.semantics.specs.Bounds.Reset.{ResetTo}
 use Rattle.semantics.specs.Bounds.Resets.{resets-to, inside-resets}
 use Rattle.semantics.specs.Bounds.Stays.{Admits, resets-in, ceilings-at}
 use Rattle.semantics.specs.Bounds.Steps.{movedBy}
-use Rattle.semantics.specs.Bounds.Shapes.{shape-charge}
+use Rattle.semantics.specs.Bounds.Shapes.{shape-top, shape-charge}
+use Rattle.semantics.specs.Bounds.Sides.{Sides, sides-resets}
 
 -- Timers that are reset are only lowered.
 zeroed-below : (xs : List ℕ) (v : ℕ → ℕ) (x : ℕ) → zeroed xs v x ≤ v x
 zeroed-below xs v x = go (among x xs)
   where
-  go : (b : Bool) → cond b 0 (v x) ≤ v x
-  go true = omega arith
-  go false = le-refl _
+    go : (b : Bool) → cond b 0 (v x) ≤ v x
+    go true = omega arith
+    go false = le-refl _
 
 module _ (a : Automaton) (ok : Proper a) (e : ℕ) (r : PricedRegion) (w : WellFormed r) (sized : length (r .whole) ≡ timers a) where
   resets-there : (x : ℕ) → List·Memᴰ x (moveAt a e .resets) → x < length (r .whole)
@@ -53,6 +54,20 @@ module _ (a : Automaton) (ok : Proper a) (e : ℕ) (r : PricedRegion) (w : WellF
       → Inside q v′ (λ i. f (moved-to .old i)) (movedBy a e r)
   moved-inside q v f v′ h p =
       inside-shape q v′ _ _ _ (shape-charge (moveAt a e .price) _) (inside-resets _ r _ _ moved-to q v f v′ h p)
+
+  -- It has as many corners as after the resets, and its groups are up at a corner exactly if they were before.
+  pub moved-top : top (resetAll (moveAt a e .resets) r) ≡ top (movedBy a e r)
+  moved-top = shape-top _ _ (shape-charge (moveAt a e .price) (resetAll (moveAt a e .resets) r))
+
+  pub moved-sides :
+      (j : ℕ) → j ≤ top r → (Down Up : ℕ → Type 0) → Sides (top r) j Down Up
+      → Sides (top (movedBy a e r)) (resetAllCorner (moveAt a e .resets) r j) (λ i. Down (moved-to .old i)) (λ i. Up (moved-to .old i))
+  moved-sides j h Down Up p =
+      let s = sides-resets _ _ _ _ moved-to j h Down Up p in
+      record {
+        down = λ i l k. s .down i (omega (arith, moved-top)) (omega (arith, moved-top));
+        up = λ i l k. s .up i (omega (arith, moved-top)) (omega (arith, moved-top));
+      }
 
   -- The target's conditions are tested; the ceilings hold as they did before, since timers are only lowered.
   pub moved-admits :

@@ -133,7 +133,9 @@ module _ (r : PricedRegion) (w : WellFormed r) (x : ℕ) (in-range : x < length 
           same = e;
         }
 
-        smaller : i ≡ top r - g → Dec (price r i ≤ price r (suc i)) → price (resetAlone x r) i ≡ min (price r i) (price r (suc i)) → Source r (fallen (top r) g) i (price (resetAlone x r) i)
+        smaller :
+            i ≡ top r - g → Dec (price r i ≤ price r (suc i)) → price (resetAlone x r) i ≡ min (price r i) (price r (suc i))
+            → Source r (fallen (top r) g) i (price (resetAlone x r) i)
         smaller l (yes b) e = stay (omega (arith, gone-bounded)) (omega arith)
         smaller l (no b) e = fall (omega (arith, gone-bounded)) (omega arith)
 

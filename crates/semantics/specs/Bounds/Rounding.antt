@@ -167,7 +167,10 @@ module _ (a : Automaton) (ok : Proper a) (Q l : ℕ) (v v′ : ℕ → ℕ) (wai
       cheap = omega (arith, d .cheap, arrive-price (d .region) (pred (d .corner)), ap (price (d .region)) one);
       fraction = later suc 1 (d .fraction);
       inside = p;
-      sides = record { down = λ i b k. down i (omega (arith, low-top)) (omega (arith, low-top)); up = λ i b k. up i (omega (arith, low-top)) (omega (arith, low-top)) };
+      sides = record {
+        down = λ i b k. down i (omega (arith, low-top)) (omega (arith, low-top));
+        up = λ i b k. up i (omega (arith, low-top)) (omega (arith, low-top));
+      };
     }
       where
         u : WellFormed (arrive (d .region))

@@ -4,7 +4,7 @@
 use mathlib.Core.Path.{_≡_, refl, ap, _∙_, sym, subst, subst₂, fun-ext}
 use mathlib.Core.Bool.{Bool, true, false, cond}
 use mathlib.Core.List.{List, [], _∷_, _++_, List·Memᴰ·head}
-use Prim.Native.Nat.{ℕ, zero, suc, pred, _+_, _*_, _<_, _≤_}
+use Prim.Native.Nat.{ℕ, zero, suc, pred, _+_, _*_, _<_}
 use native.Mathlib.Omega.{arith}
 use lib.ListN.{length}
 use Rattle.semantics.specs.Automaton.{Automaton, timers, modeAt, moveAt, Proper}
@@ -15,11 +15,9 @@ use Rattle.semantics.specs.CornerPath.{resetAllCorner}
 use Rattle.semantics.specs.Regions.Lengths.{start-prices}
 use Rattle.semantics.specs.Bounds.Inside.{start-inside}
 use Rattle.semantics.specs.Bounds.Prices.{price}
-use Rattle.semantics.specs.Bounds.Sides.{Sides, sides-resets}
 use Rattle.semantics.specs.Bounds.Stays.{Admits, guard-at, stays-at, holds-double, stays-double, stays-between, start-stays}
 use Rattle.semantics.specs.Bounds.Steps.{movedBy, moves, chain-snoc}
-use Rattle.semantics.specs.Bounds.Shapes.{shape-top, shape-charge}
-use Rattle.semantics.specs.Bounds.Moved.{moved-to, moved-inside, moved-well-formed, moved-sized}
+use Rattle.semantics.specs.Bounds.Moved.{moved-to, moved-sides, moved-inside, moved-well-formed, moved-sized}
 use Rattle.semantics.specs.Bounds.Reached.{chain-reached}
 use Rattle.semantics.specs.Bounds.Flow.{move-flow}
 use Rattle.semantics.specs.Bounds.Rounding.{Rounded}
@@ -70,7 +68,8 @@ module _ (a : Automaton) (ok : Proper a) (q : ℕ) (pos : 0 < q) where
         let n = chain-reached a ok (d .steps) _ (d .found) in
         let to = moved-to a ok e r (n .well-formed) (n .sized) in
         let p =
-        moved-inside a ok e r (n .well-formed) (n .sized) (2 * q) (λ x. 2 * v x) (d .fraction) (λ x. 2 * zeroed (moveAt a e .resets) v x) (twice-zeroed (moveAt a e .resets) v) (d .inside) in
+        moved-inside a ok e r (n .well-formed) (n .sized) (2 * q) (λ x. 2 * v x) (d .fraction) (λ x. 2 * zeroed (moveAt a e .resets) v x)
+        (twice-zeroed (moveAt a e .resets) v) (d .inside) in
         let guard =
         guard-at a ok r (n .well-formed) (n .sized) (2 * q) _ _ (d .inside) e .1 (holds-double q (moveAt a e .conditions) v _ (λ x. refl) g) in
         let target : Admits a (moveAt a e .target) (movedBy a e r) =
@@ -86,9 +85,7 @@ module _ (a : Automaton) (ok : Proper a) (q : ℕ) (pos : 0 < q) where
           cheap = omega (arith, d .cheap, out .least);
           fraction = λ i. d .fraction (to .old i);
           inside = p;
-          sides =
-              subst (λ (k : ℕ). Sides k (resetAllCorner (moveAt a e .resets) r (d .corner)) (λ i. d .fraction (to .old i) ≤ ψ) (λ i. ψ < d .fraction (to .old i)))
-              (shape-top _ _ (shape-charge (moveAt a e .price) _)) (sides-resets _ _ _ _ to (d .corner) (d .there) _ _ (d .sides));
+          sides = moved-sides a ok e r (n .well-formed) (n .sized) (d .corner) (d .there) _ _ (d .sides);
         }
 
     roundings-move : (S : ℕ) → Roundings a q l v S → Roundings a q (moveAt a e .target) (zeroed (moveAt a e .resets) v) (S + q * moveAt a e .price)
@@ -100,7 +97,9 @@ module _ (a : Automaton) (ok : Proper a) (q : ℕ) (pos : 0 < q) where
     }
 
   -- A tick: the last phase becomes the first.
-  roundings-tick : (l : ℕ) (v : ℕ → ℕ) (S : ℕ) → Stays a q l (λ x. v x + 1) → Roundings a q l v S → Roundings a q l (λ x. v x + 1) (S + modeAt a l .rate)
+  roundings-tick :
+      (l : ℕ) (v : ℕ → ℕ) (S : ℕ) → Stays a q l (λ x. v x + 1) → Roundings a q l v S
+      → Roundings a q l (λ x. v x + 1) (S + modeAt a l .rate)
   roundings-tick l v S h r = record { stays = h; weight = turn last (modeAt a l .rate) (r .weight); rounded = rounded; total = total }
     where
       last : ℕ

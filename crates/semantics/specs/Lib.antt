@@ -8,9 +8,12 @@ pub mod Corner
 pub mod Path
 pub mod Node
 pub mod Chain
+pub mod CornerPath
+pub mod Floor
 pub mod Demand
 -- Theorems:
 pub mod Regions
 pub mod Corners
 pub mod Nodes
+pub mod Bounds
 pub mod Paths

@@ -90,7 +90,12 @@ pub fn cell_at(ceilings: [u8; Region::MOST_TIMERS], number: usize) -> [u8; Regio
 }
 
 // The number of the node that is a region's corner in a mode.
-pub fn node_of(mode: usize, region: Region, index: usize, ceilings: [u8; Region::MOST_TIMERS]) -> usize
+pub fn node_of(
+    mode: usize,
+    region: Region,
+    index: usize,
+    ceilings: [u8; Region::MOST_TIMERS],
+) -> usize
     requires { ⌜ Valid region × (index ≤ region .top) × (mode < mostModes) × CeilingsFew ceilings × Padded (region .timers) ceilings ⌝ }
     ensures { λ r. ⌜ r ≡ nodeNumber (take (region .timers) ceilings) (nodeOf mode (view region) index) ⌝ }
 {

@@ -54,10 +54,12 @@ returns c =
     let also : length w ≡ 3 = search needs in
     let a = first .factor in
     let b = c .before .before .before .before .factor2 in
-    let f = c .before .before .before .factor3 in
-    (c .with-digit3 .ensures .0
-    ∙ ap (λ (k : ℕ). k * a .result + getD w 0 0) (c .before .with-digit2 .ensures .0 ∙ ap (λ (k : ℕ). k * b .result + getD w 1 0) (c .before .before .with-digit .ensures .0))
-    ∙ number-is l three (a .ensures .is) (b .ensures .is) (f .ensures .is) w also, omega (arith, c .with-digit3 .ensures .1, c .before .with-digit2 .ensures .1, c .before .before .with-digit .ensures .1))
+    let f = c .before .before .before .factor3 in (
+      c .with-digit3 .ensures .0
+          ∙ ap (λ (k : ℕ). k * a .result + getD w 0 0) (c .before .with-digit2 .ensures .0 ∙ ap (λ (k : ℕ). k * b .result + getD w 1 0) (c .before .before .with-digit .ensures .0))
+          ∙ number-is l three (a .ensures .is) (b .ensures .is) (f .ensures .is) w also,
+      omega (arith, c .with-digit3 .ensures .1, c .before .with-digit2 .ensures .1, c .before .before .with-digit .ensures .1),
+    )
 
 pub cell-number-spec : {M : Type 1} → statement M
 cell-number-spec =

@@ -6,6 +6,7 @@ pub mod Region
 pub mod Point
 pub mod Corner
 pub mod Path
+pub mod Distance
 pub mod Node
 pub mod Chain
 pub mod CornerPath

@@ -22,3 +22,5 @@ pub mod Sum
 pub mod Sound
 pub mod Pass
 pub mod Seed
+-- The distance as a function.
+pub mod UpTo

@@ -24,3 +24,4 @@ pub mod Pass
 pub mod Seed
 -- The distance as a function.
 pub mod UpTo
+pub mod Computed

@@ -5,6 +5,7 @@ pub mod Run
 pub mod Region
 pub mod Point
 pub mod Corner
+pub mod Path
 pub mod Node
 pub mod Chain
 pub mod Demand
@@ -12,3 +13,4 @@ pub mod Demand
 pub mod Regions
 pub mod Corners
 pub mod Nodes
+pub mod Paths

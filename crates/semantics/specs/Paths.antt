@@ -1,0 +1,24 @@
+-- Shortest paths in a graph: an attained and settled table gives exactly the least costs, and the best route is read off it label by label.
+-- Paths and their costs:
+pub mod Pigeonhole
+pub mod Loops
+pub mod Cost
+pub mod Distance
+pub mod Least
+-- Routes:
+pub mod Labels
+pub mod Better
+pub mod System
+pub mod Route
+pub mod Start
+pub mod Prefix
+pub mod FirstSome
+pub mod Greedy
+pub mod Plain
+-- Tables that are computed, and tables in words:
+pub mod Certificate
+pub mod Words
+pub mod Sum
+pub mod Sound
+pub mod Pass
+pub mod Seed

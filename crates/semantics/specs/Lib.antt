@@ -8,9 +8,13 @@ pub mod Corner
 pub mod Path
 pub mod Node
 pub mod Chain
+pub mod CornerPath
+pub mod Floor
 pub mod Demand
+pub mod Answer
 -- Theorems:
 pub mod Regions
 pub mod Corners
 pub mod Nodes
+pub mod Bounds
 pub mod Paths

@@ -61,8 +61,16 @@ stopping l p = cond (eqb (p .mode) l) (route (least (p .region .prices)) []) noR
 abbrev pub stepBytes : List ℕ
 stepBytes = countFrom 0 66
 
-mutual
-  -- The best way from a place into mode l in at most n steps: to stop, or a step and the best way from there.
-  unfoldable pub bestFrom : Automaton → ℕ → ℕ → Place → Answer
-  bestFrom a l zero p = stopping l p
-  bestFrom a l (suc n) p = better (stopping l p) (bestOver a l n p stepBytes)
+-- The best of the allowed steps, each with what `go` finds from the place that it leads to.
+abbrev pub overSteps : (Place → Answer) → Automaton → Place → List ℕ → Answer
+overSteps go a p [] = noRoute
+overSteps go a p (byte ∷ bytes) = better (elim (step a byte p) [ none ↦ noRoute | some p′ ↦ behind byte (go p′) ]) (overSteps go a p bytes)
+
+-- The best way from a place into mode l in at most n steps: to stop there, or a step and the best way behind it.
+unfoldable pub bestFrom : Automaton → ℕ → ℕ → Place → Answer
+bestFrom a l zero p = stopping l p
+bestFrom a l (suc n) p = better (stopping l p) (overSteps (λ p′. bestFrom a l n p′) a p stepBytes)
+
+-- The answer for the goal l: no chain of E steps or more is better than all shorter ones (a theorem), so that E - 1 steps are enough.
+unfoldable pub answer : Automaton → ℕ → Answer
+answer a l = bestFrom a l (pred (nodeCount a)) (begin a)

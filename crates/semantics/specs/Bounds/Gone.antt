@@ -15,11 +15,11 @@ abbrev pub skip : ℕ → ℕ → ℕ
 skip g i = cond (ltb i g) i (suc i)
 
 -- The two cases of it.
-pub data Skip (g i : ℕ) : Type 0 where
+data Skip (g i : ℕ) : Type 0 where
   low : i < g → skip g i ≡ i → Skip g i
   high : g ≤ i → skip g i ≡ suc i → Skip g i
 
-pub skip-cases : (g i : ℕ) → Skip g i
+skip-cases : (g i : ℕ) → Skip g i
 skip-cases g i = go (decLt i g)
   where
     go : Dec (i < g) → Skip g i

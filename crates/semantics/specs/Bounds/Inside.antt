@@ -41,7 +41,7 @@ module _ (r : PricedRegion) (w : WellFormed r) (q : ℕ) (v f : ℕ → ℕ) (p 
   group-in x = omega (arith, w .below x, prices-top r (w .priced))
 
   -- No fraction is above that of the highest group.
-  pub below-top : (i : ℕ) → i ≤ top r → f i ≤ f (top r)
+  below-top : (i : ℕ) → i ≤ top r → f i ≤ f (top r)
   below-top i h = go (ℕ-discrete i (top r))
     where
       go : Dec (i ≡ top r) → f i ≤ f (top r)

@@ -1,0 +1,5 @@
+-- The answer is the best of all chains, whatever their length; a table of least costs of the corner graph gives it; and it is what demand 3
+-- asks of the planner.
+pub mod Places
+pub mod Edges
+pub mod Graph

@@ -3,3 +3,8 @@
 pub mod Places
 pub mod Edges
 pub mod Graph
+pub mod System
+pub mod Comes
+pub mod Better
+pub mod Few
+pub mod Best

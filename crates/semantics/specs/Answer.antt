@@ -4,6 +4,7 @@
 use Prim.Native.Nat.{ℕ, zero, suc, pred, _+_, min}
 use mathlib.Core.Path.{_≡_}
 use mathlib.Core.Bool.{Bool, true, false, cond}
+use mathlib.Core.Logic.{_↔_}
 use mathlib.Core.List.{List, [], _∷_, List·Memᴰ}
 use mathlib.Core.Option.{Option, none, some}
 use lib.Dec.{ltb, eqb}
@@ -11,7 +12,8 @@ use lib.ListN.{length}
 use Rattle.semantics.specs.Automaton.{Automaton}
 use Rattle.semantics.specs.Corner.{countFrom}
 use Rattle.semantics.specs.Node.{nodeCount}
-use Rattle.semantics.specs.Chain.{Place, step, begin, chain}
+use Rattle.semantics.specs.Chain.{Place, step, begin, chain, movesOf}
+use Rattle.semantics.specs.Demand.{AtLeast, Approached, NoRun}
 
 -- The chain of the steps ks ends in mode l with a corner at the price C.
 pub record Comes (a : Automaton) (l : ℕ) (ks : List ℕ) (C : ℕ) : Type 0 where
@@ -74,3 +76,12 @@ bestFrom a l (suc n) p = better (stopping l p) (overSteps (λ p′. bestFrom a l
 -- The answer for the goal l: no chain of E steps or more is better than all shorter ones (a theorem), so that E - 1 steps are enough.
 unfoldable pub answer : Automaton → ℕ → Answer
 answer a l = bestFrom a l (pred (nodeCount a)) (begin a)
+
+-- What demand 3 says of an answer for the goal l.
+pub record MeetsDemand (a : Automaton) (l : ℕ) (x : Answer) : Type 0 where
+  -- "Where it reports a charge C, every run from the start [..] into the goal [..] is charged C or more".
+  pub at-least : (C : ℕ) (ks : List ℕ) → x ≡ route C ks → AtLeast a l C
+  -- "for every whole m from 1 some such run, making exactly the route's moves in their order, is charged less than C + 1/m".
+  pub approached : (C : ℕ) (ks : List ℕ) → x ≡ route C ks → Approached a l (movesOf ks) C
+  -- "the answer no route exactly when no run from the start comes into the goal".
+  pub no-run : (x ≡ noRoute) ↔ NoRun a l

@@ -8,3 +8,6 @@ pub mod Comes
 pub mod Better
 pub mod Few
 pub mod Best
+pub mod Demand
+pub mod Table
+pub mod Reading

@@ -9,7 +9,7 @@ use native.Mathlib.Nat.{le-refl}
 use native.Mathlib.Omega.{arith}
 use lib.ListN.{length}
 use Rattle.semantics.specs.Automaton.{Automaton, timers, modeAt, moveAt, Proper}
-use Rattle.semantics.specs.Region.{PricedRegion, WellFormed, top, resetAll, meetsAll, within}
+use Rattle.semantics.specs.Region.{PricedRegion, WellFormed, top, resetAll, meetsAll}
 use Rattle.semantics.specs.Run.{among, zeroed, BelowCeilings}
 use Rattle.semantics.specs.CornerPath.{resetAllCorner}
 use Rattle.semantics.specs.Regions.Lengths.{resetAll-timers, charge-timers}
@@ -71,9 +71,9 @@ module _ (a : Automaton) (ok : Proper a) (e : ℕ) (r : PricedRegion) (w : WellF
 
   -- The target's conditions are tested; the ceilings hold as they did before, since timers are only lowered.
   pub moved-admits :
-      within (a .ceilings) r ≡ true → meetsAll (modeAt a (moveAt a e .target) .conditions) (movedBy a e r) ≡ true
+      (l : ℕ) → Admits a l r → meetsAll (modeAt a (moveAt a e .target) .conditions) (movedBy a e r) ≡ true
       → Admits a (moveAt a e .target) (movedBy a e r)
-  moved-admits c m = record { conditions = m; ceilings = ceilings-at a ok (movedBy a e r) moved-well-formed moved-sized q v′ _ p′ .1 below }
+  moved-admits l t m = record { conditions = m; ceilings = ceilings-at a ok (movedBy a e r) moved-well-formed moved-sized q v′ _ p′ .1 below }
     where
       q : ℕ
       q = suc (top r)
@@ -88,4 +88,4 @@ module _ (a : Automaton) (ok : Proper a) (e : ℕ) (r : PricedRegion) (w : WellF
       p′ = moved-inside q v (λ i. i) v′ (λ x. refl) (inside-own r w)
 
       below : BelowCeilings q (a .ceilings) v′
-      below x l = omega (arith, zeroed-below (moveAt a e .resets) v x, ceilings-at a ok r w sized q v _ (inside-own r w) .0 c x l)
+      below x h = omega (arith, zeroed-below (moveAt a e .resets) v x, ceilings-at a ok r w sized q v _ (inside-own r w) .0 (t .ceilings) x h)

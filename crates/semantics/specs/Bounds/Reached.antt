@@ -63,7 +63,7 @@ module _ (a : Automaton) (ok : Proper a) where
     well-formed = moved-well-formed a ok e (p .region) (h .well-formed) (h .sized);
     sized = moved-sized a ok e (p .region) (h .well-formed) (h .sized);
     in-modes = ok .target-there (moveAt a e) (mem-getD (a .moves) e _ i);
-    admits = moved-admits a ok e (p .region) (h .well-formed) (h .sized) (h .admits .ceilings) m;
+    admits = moved-admits a ok e (p .region) (h .well-formed) (h .sized) (p .mode) (h .admits) m;
   }
 
   pub chain-reached : (bytes : List ℕ) (p : Place) → chain a bytes ≡ some p → Reached a p

@@ -1,6 +1,7 @@
 -- Conditions and ceilings, at values and in the region of which the values are a point: a region passes a test exactly if any one of its
--- points satisfies it (Regions.Meets). Conditions and ceilings are convex: what holds at two values holds between them. Ceilings are named
--- here and, for the step of a move, which does not test them, in Bounds.Reached; the rest of the proof goes by `Admits` and `Stays`.
+-- points satisfies it (Regions.Meets). Conditions and ceilings are convex: what holds at two values holds between them. The proof of the
+-- bounds goes by `Admits` and `Stays`. Ceilings are named apart only here, where a delay is taken apart (Bounds.Steps, Bounds.Shapes), for a
+-- move, which does not test them (Bounds.Moved), and for the nodes (Bounds.Nodes).
 -- Assumes nothing.
 use mathlib.Core.Path.{_≡_, refl, sym, subst}
 use mathlib.Core.Bool.{true}

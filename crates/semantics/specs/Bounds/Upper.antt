@@ -109,7 +109,7 @@ module _ (a : Automaton) (ok : Proper a) where
       rw (append-nil made) (linger-approaches a ok made (p .mode) (p .region) (h .well-formed) (h .sized) n z (h .admits))
   step-approaches byte p p′ made h (idles z) n = rw (append-nil made) n
   step-approaches byte p p′ made h (moves e b i o g m) n =
-      let t = moved-admits a ok e (p .region) (h .well-formed) (h .sized) (h .admits .ceilings) m in
+      let t = moved-admits a ok e (p .region) (h .well-formed) (h .sized) (p .mode) (h .admits) m in
       rw (lt-ltb e 64 b) (move-approaches a ok made (p .mode) (p .region) (h .well-formed) (h .sized) n e i o g t)
 
   follow-approaches :

@@ -1,12 +1,12 @@
 -- The answer: document 01, "The route". "Among chains that end in the goal with a corner at the least charge, the route is one with fewest
 -- steps; among those the first in byte order."
 -- Assumes nothing.
-use Prim.Native.Nat.{ℕ, zero, suc, pred, _+_, min}
+use Prim.Native.Nat.{ℕ, zero, suc, pred, min}
 use mathlib.Core.Path.{_≡_}
 use mathlib.Core.Bool.{Bool, true, false, cond}
 use mathlib.Core.Logic.{_↔_}
 use mathlib.Core.List.{List, [], _∷_, List·Memᴰ}
-use mathlib.Core.Option.{Option, none, some}
+use mathlib.Core.Option.{none, some}
 use lib.Dec.{ltb, eqb}
 use lib.ListN.{length}
 use Rattle.semantics.specs.Automaton.{Automaton}

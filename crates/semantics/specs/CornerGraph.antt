@@ -8,7 +8,6 @@ use Prim.Native.Nat.{ℕ, suc, max, _≤_}
 use lib.Dec.{eqb}
 use lib.ListN.{replicate}
 use Rattle.semantics.specs.Automaton.{Mode, Move, Automaton}
-use Rattle.semantics.specs.Region.{PricedRegion}
 use Rattle.semantics.specs.Corner.{flatMap}
 use Rattle.semantics.specs.Path.{Edge, Graph}
 use Rattle.semantics.specs.Node.{Node, nodeOf, nodeCount, nodeNumber, nodeAt}

@@ -14,12 +14,11 @@ use Rattle.semantics.specs.Node.{nodeCount}
 use Rattle.semantics.specs.Chain.{begin}
 use Rattle.semantics.specs.Answer.{Comes, Answer, noRoute, route, answer}
 use Rattle.semantics.specs.CornerGraph.{cornerGraph, PricesWithin}
-use Rattle.semantics.specs.Corners.Lists.{mem-place}
 use Rattle.semantics.specs.Bounds.Reached.{Reached, reached-begin}
 use Rattle.semantics.specs.Paths.Labels.{Few, Shortened, best-unique, best-short}
 use Rattle.semantics.specs.Paths.System.{arrives-short}
 use Rattle.semantics.specs.Answers.Graph.{graph-closed}
-use Rattle.semantics.specs.Answers.System.{chains, chains-follow, begin-inside}
+use Rattle.semantics.specs.Answers.System.{chains, price-corner, chains-follow, begin-inside}
 use Rattle.semantics.specs.Answers.Comes.{comes-arrives, chain-priced}
 use Rattle.semantics.specs.Answers.Better.{IsBest, is-best-map}
 use Rattle.semantics.specs.Answers.Few.{few-best}
@@ -56,8 +55,8 @@ module _ (a : Automaton) (ok : Proper a) (l : ℕ) where
   answer-is-best : IsBest (Comes a l) (answer a l)
   answer-is-best = all-best (answer a l) answer-few
 
-  -- Nothing else is.
-  best-answer : (x y : Answer) → IsBest (Comes a l) x → IsBest (Comes a l) y → x ≡ y
+  -- Nothing else is: two routes that are the best are equal.
+  pub best-answer : (x y : Answer) → IsBest (Comes a l) x → IsBest (Comes a l) y → x ≡ y
   best-answer noRoute noRoute b c = refl
   best-answer noRoute (route D ks) b c = absurd (b ks D (c .first .good .0))
   best-answer (route C js) noRoute b c = absurd (c js C (b .first .good .0))
@@ -90,6 +89,6 @@ module _ (a : Automaton) (ok : Proper a) (l : ℕ) where
     pub answer-charge : (w : ℕ) → PricesWithin a w → C ≤ (nodeCount a - 1) * w
     answer-charge w light =
         let c = answer-best C ks .0 e .first .good .0 in
-        let o = mem-place (c .place .region .prices) C (c .corner) in
-        le-trans (subst (λ (n : ℕ). n ≤ length ks * w) (o .2 0) (chain-priced a ok w light ks (c .place) (c .ends) (o .0) (o .1)))
+        let o = price-corner (c .place .region .prices) C .0 (c .corner) in
+        le-trans (subst (λ (n : ℕ). n ≤ length ks * w) (o .2) (chain-priced a ok w light ks (c .place) (c .ends) (o .0) (o .1)))
         (mul-le-mul-right w answer-steps)

@@ -2,7 +2,7 @@
 -- Assumes nothing.
 use mathlib.Core.Path.{_≡_, refl, _∙_, sym, subst}
 use mathlib.Core.Logic.{_↔_}
-use mathlib.Core.List.{List, [], _∷_, List·Memᴰ}
+use mathlib.Core.List.{List, [], _∷_}
 use mathlib.Core.Option.{Option, none, some, Option·some-injective}
 use Prim.Native.Nat.{ℕ, _+_, _*_, _<_, _≤_}
 use native.Mathlib.Nat.{zero-mul, suc-mul}
@@ -13,16 +13,15 @@ use Rattle.semantics.specs.Region.{start}
 use Rattle.semantics.specs.Chain.{Place, step, follow, begin, chain}
 use Rattle.semantics.specs.Answer.{Comes}
 use Rattle.semantics.specs.CornerGraph.{numberOf, cornerGraph, PricesWithin}
-use Rattle.semantics.specs.Corners.Lists.{mem-getD, mem-place}
 use Rattle.semantics.specs.Bounds.Prices.{price}
-use Rattle.semantics.specs.Bounds.Steps.{follow-first, follow-keeps}
-use Rattle.semantics.specs.Bounds.Reached.{Reached, reached-begin, reached-step}
+use Rattle.semantics.specs.Bounds.Steps.{follow-first}
+use Rattle.semantics.specs.Bounds.Reached.{Reached, reached-begin, chain-reached}
 use Rattle.semantics.specs.Paths.System.{follow as followBy, Arrives}
 use Rattle.semantics.specs.Answers.Graph.{graph-weights}
-use Rattle.semantics.specs.Answers.System.{chains, reached-next, predecessor, chains-follow, target-mode}
+use Rattle.semantics.specs.Answers.System.{chains, price-corner, reached-next, chains-follow, target-mode}
 
 -- The steps of the system, one after another, are those of a chain.
-pub follow-chain : (a : Automaton) (ks : List ℕ) (p : Place) → followBy (chains a) ks p ≡ follow a ks p
+follow-chain : (a : Automaton) (ks : List ℕ) (p : Place) → followBy (chains a) ks p ≡ follow a ks p
 unfolding follow
 follow-chain a [] p = refl
 follow-chain a (k ∷ ks) p = go (step a k p) (follow-chain a ks)
@@ -35,33 +34,31 @@ follow-chain a (k ∷ ks) p = go (step a k p) (follow-chain a ks)
     go (some p′) ih = ih p′
 
 module _ (a : Automaton) (ok : Proper a) where
-  pub comes-arrives :
-      (l : ℕ) (ks : List ℕ) (C : ℕ) → Comes a l ks C ↔ Arrives (cornerGraph a l) (chains a) (begin a) ks C
+  -- The steps come into mode l at the price C exactly if they arrive, as labels, in a target at this price.
+  pub comes-arrives : (l : ℕ) (ks : List ℕ) (C : ℕ) → Comes a l ks C ↔ Arrives (cornerGraph a l) (chains a) (begin a) ks C
   unfolding chain
   comes-arrives l ks C = (
     λ c.
-        let o = mem-place (c .place .region .prices) C (c .corner) in
-        let h = reached ks (c .place) (c .ends) in
+        let h = chain-reached a ok ks (c .place) (c .ends) in
+        let o = price-corner (c .place .region .prices) C .0 (c .corner) in
         record {
           last = c .place;
           follows = follow-chain a ks (begin a) ∙ c .ends;
           corner = o .0;
           among = o .1;
           target = target-mode a ok l (c .place) h (o .0) (o .1) .1 (c .mode);
-          priced = o .2 0;
+          priced = o .2;
         },
     λ r.
         let f = sym (follow-chain a ks (begin a)) ∙ r .follows in
+        let h = chain-reached a ok ks (r .last) f in
         record {
           place = r .last;
           ends = f;
-          mode = target-mode a ok l (r .last) (reached ks (r .last) f) (r .corner) (r .among) .0 (r .target);
-          corner = subst (λ (c : ℕ). List·Memᴰ c (r .last .region .prices)) (r .priced) (mem-getD (r .last .region .prices) (r .corner) 0 (r .among));
+          mode = target-mode a ok l (r .last) h (r .corner) (r .among) .0 (r .target);
+          corner = price-corner (r .last .region .prices) C .1 (r .corner, r .among, r .priced);
         },
   )
-    where
-      reached : (ks : List ℕ) (p : Place) → follow a ks (begin a) ≡ some p → Reached a p
-      reached ks p f = follow-keeps a (Reached a) (reached-step a ok) ks (begin a) p f (reached-begin a ok)
 
   module _ (w : ℕ) (light : PricesWithin a w) where
     -- No price is above B.
@@ -71,7 +68,7 @@ module _ (a : Automaton) (ok : Proper a) where
     -- A step adds at most w to a price.
     step-priced : (k : ℕ) (p p′ : Place) (B : ℕ) → Reached a p → PricedBelow p B → step a k p ≡ some p′ → PricedBelow p′ (B + w)
     step-priced k p p′ B h below f i b =
-        let r = predecessor a ok 0 p p′ k i h f b in
+        let r = chains-follow a ok 0 .predecessor p p′ k i h f b in
         let v = chains-follow a ok 0 .inside p (r .corner) h (r .among) in
         omega (arith, r .priced, below (r .corner) (r .among), graph-weights a 0 ok w light (numberOf a p (r .corner)) (r .edge) v (r .leaves))
 

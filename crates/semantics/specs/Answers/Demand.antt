@@ -1,23 +1,24 @@
 -- The answer meets demand 3: its charge bounds all runs into the goal from below, runs of its route's moves come as near to it as one likes,
 -- and it is no route exactly if there is no run.
 -- Assumes nothing.
-use mathlib.Core.Path.{_≡_, subst}
+use mathlib.Core.Path.{subst}
 use mathlib.Core.Logic.{_↔_}
 use mathlib.Core.List.{List}
 use Prim.Native.Nat.{ℕ}
 use lib.ListN.{length, getD}
 use Rattle.semantics.specs.Automaton.{Automaton, Proper}
 use Rattle.semantics.specs.Path.{cost, Best}
-use Rattle.semantics.specs.Chain.{Place, chain, movesOf}
+use Rattle.semantics.specs.Chain.{movesOf}
 use Rattle.semantics.specs.Floor.{Floor, NoChain}
-use Rattle.semantics.specs.Demand.{AtLeast, Approached, NoRun}
-use Rattle.semantics.specs.Answer.{Comes, noRoute, route, answer, MeetsDemand}
-use Rattle.semantics.specs.Corners.Lists.{mem-getD, mem-place}
+use Rattle.semantics.specs.Demand.{Approached}
+use Rattle.semantics.specs.Answer.{Comes, answer, MeetsDemand}
+use Rattle.semantics.specs.Corners.Lists.{mem-getD}
 use Rattle.semantics.specs.Bounds.Reached.{chain-reached}
 use Rattle.semantics.specs.Bounds.Lower.{lower}
 use Rattle.semantics.specs.Bounds.Upper.{upper}
 use Rattle.semantics.specs.Bounds.Exists.{no-run}
 use Rattle.semantics.specs.Paths.Cost.{cost-charge}
+use Rattle.semantics.specs.Answers.System.{price-corner}
 use Rattle.semantics.specs.Answers.Best.{answer-best, answer-none}
 
 module _ (a : Automaton) (ok : Proper a) (l : ℕ) where
@@ -42,8 +43,8 @@ module _ (a : Automaton) (ok : Proper a) (l : ℕ) where
     at-least = λ C ks e. lower a ok l C (best-floor C ks (answer-best a ok l C ks .0 e));
     approached = λ C ks e.
         let c = answer-best a ok l C ks .0 e .first .good .0 in
-        let o = mem-place (c .place .region .prices) C (c .corner) in
-        subst (Approached a l (movesOf ks)) (o .2 0) (upper a ok ks (c .place) l (c .ends) (c .mode) (o .0) (o .1));
+        let o = price-corner (c .place .region .prices) C .0 (c .corner) in
+        subst (Approached a l (movesOf ks)) (o .2) (upper a ok ks (c .place) l (c .ends) (c .mode) (o .0) (o .1));
     no-run = (
       λ e. no-run a ok l .1 (none-chain .0 (answer-none a ok l .0 e)),
       λ n. answer-none a ok l .1 (none-chain .1 (no-run a ok l .0 n)),

@@ -2,22 +2,21 @@
 -- Assumes nothing.
 use mathlib.Core.Path.{_≡_, refl, sym, subst}
 use mathlib.Core.Logic.{⊎-elim}
-use mathlib.Core.List.{List, [], _∷_, List·Memᴰ, List·Memᴰ·not-nil, List·Memᴰ·cases-cons, List·Memᴰ·eq-of-singleton}
-use Prim.Native.Nat.{ℕ, zero, suc, _<_, _≤_}
+use mathlib.Core.List.{List·Memᴰ, List·Memᴰ·not-nil, List·Memᴰ·cases-cons, List·Memᴰ·eq-of-singleton}
+use Prim.Native.Nat.{ℕ, zero, suc, _≤_}
 use native.Mathlib.Omega.{arith}
 use borrow.Author.Tests.{eq-eqb, ne-eqb, lt-ltb}
-use lib.ListN.{length}
-use Rattle.semantics.specs.Automaton.{Mode, Move, Automaton, timers, modeAt, moveAt, Proper}
-use Rattle.semantics.specs.Region.{count, top, leave, arrive}
+use Rattle.semantics.specs.Automaton.{Automaton, modeAt, moveAt, Proper}
+use Rattle.semantics.specs.Region.{count, top}
 use Rattle.semantics.specs.Chain.{Place}
 use Rattle.semantics.specs.CornerPath.{Edge, passEdges, dropEdges, edges}
 use Rattle.semantics.specs.CornerGraph.{PricesWithin}
-use Rattle.semantics.specs.Regions.Lengths.{prices-top, leave-top, arrive-top}
+use Rattle.semantics.specs.Regions.Lengths.{leave-top, arrive-top}
 use Rattle.semantics.specs.Corners.Lists.{mem-getD}
 use Rattle.semantics.specs.Bounds.Steps.{rateAt, Stepped, leaves, arrives, lingers, idles, moves}
 use Rattle.semantics.specs.Bounds.Shapes.{shape-linger, shape-top}
 use Rattle.semantics.specs.Bounds.Moved.{moved-to, moved-top}
-use Rattle.semantics.specs.Answers.Places.{IsPlace, place-step}
+use Rattle.semantics.specs.Answers.Places.{IsPlace}
 
 -- Where an edge of a step to p leads, and what it weighs.
 pub record StepEdge (a : Automaton) (p : Place) (e : Edge) : Type 0 where
@@ -66,4 +65,7 @@ module _ (a : Automaton) (ok : Proper a) (p : Place) (h : IsPlace a p) where
       let w = h .well-formed in
       let k = h .cell .sized in
       subst (StepEdge a _) (sym (List·Memᴰ·eq-of-singleton (rw (lt-ltb i 64 l) at m)))
-      (record { there = omega (arith, moved-to a ok i (p .region) w k .there j b, moved-top a ok i (p .region) w k); light = λ w s. s .prices (moveAt a i) (mem-getD (a .moves) i _ c) })
+      (record {
+        there = omega (arith, moved-to a ok i (p .region) w k .there j b, moved-top a ok i (p .region) w k);
+        light = λ w s. s .prices (moveAt a i) (mem-getD (a .moves) i _ c);
+      })

@@ -2,40 +2,40 @@
 -- Assumes nothing.
 use mathlib.Core.Path.{_≡_, refl, ap, _∙_, sym, subst}
 use mathlib.Core.Bool.{Bool, true, false, cond}
-use mathlib.Core.Logic.{_⊎_, inl, inr, ⊎-elim}
+use mathlib.Core.Logic.{_↔_, _⊎_, inl, inr, ⊎-elim}
 use mathlib.Core.List.{List, [], _∷_, List·Memᴰ, List·Memᴰ·head, List·Memᴰ·tail, List·Memᴰ·not-nil, List·Memᴰ·cases-cons}
 use mathlib.Core.Option.{Option, none, some, Option·some-injective, Option·none-ne-some}
-use Prim.Native.Nat.{ℕ, zero, suc, _<_, _≤_}
+use Prim.Native.Nat.{ℕ, zero, suc, _<_}
 use native.Mathlib.Omega.{arith}
 use borrow.Author.Tests.{eqb-true, eqb-false}
 use lib.Dec.{eqb}
 use lib.ListN.{length}
 use Rattle.semantics.specs.Automaton.{Automaton, Proper}
-use Rattle.semantics.specs.Path.{cost, _≼_, Best}
+use Rattle.semantics.specs.Path.{cost}
 use Rattle.semantics.specs.Chain.{Place, step}
 use Rattle.semantics.specs.Answer.{Answer, noRoute, route, better, behind, least, stopping, stepBytes, overSteps, bestFrom}
 use Rattle.semantics.specs.CornerGraph.{cornerGraph}
-use Rattle.semantics.specs.Corners.Lists.{mem-getD, mem-place, mem-below}
+use Rattle.semantics.specs.Corners.Lists.{mem-below}
 use Rattle.semantics.specs.Bounds.Reached.{Reached}
 use Rattle.semantics.specs.Paths.Cost.{cost-both}
 use Rattle.semantics.specs.Paths.Labels.{Few}
 use Rattle.semantics.specs.Paths.Better.{Either, Before}
 use Rattle.semantics.specs.Paths.System.{Arrives, arrives-cons, arrives-step, arrives-here}
 use Rattle.semantics.specs.Answers.Graph.{label-below}
-use Rattle.semantics.specs.Answers.System.{chains, reached-next, target-mode}
+use Rattle.semantics.specs.Answers.System.{chains, price-corner, reached-next, target-mode}
 use Rattle.semantics.specs.Answers.Better.{IsBest, is-best-map, is-best-better, is-best-behind, least-listed, least-most}
 
 -- An allowed step of this byte, and then a list of the kind that its next place has.
-pub record Stepping (a : Automaton) (Q : Place → List ℕ → ℕ → Type 0) (p : Place) (byte : ℕ) (ks : List ℕ) (C : ℕ) : Type 0 where
-  pub next : Place
-  pub step : step a byte p ≡ some next
-  pub before : Before byte (Q next) ks C
+record Stepping (a : Automaton) (Q : Place → List ℕ → ℕ → Type 0) (p : Place) (byte : ℕ) (ks : List ℕ) (C : ℕ) : Type 0 where
+  next : Place
+  step : step a byte p ≡ some next
+  before : Before byte (Q next) ks C
 
 -- Such a step of one of the bytes.
-pub record SteppingBy (a : Automaton) (Q : Place → List ℕ → ℕ → Type 0) (p : Place) (bytes ks : List ℕ) (C : ℕ) : Type 0 where
-  pub byte : ℕ
-  pub listed : List·Memᴰ byte bytes
-  pub first : Stepping a Q p byte ks C
+record SteppingBy (a : Automaton) (Q : Place → List ℕ → ℕ → Type 0) (p : Place) (bytes ks : List ℕ) (C : ℕ) : Type 0 where
+  byte : ℕ
+  listed : List·Memᴰ byte bytes
+  first : Stepping a Q p byte ks C
 
 module _ (a : Automaton) (Q : Place → List ℕ → ℕ → Type 0) (go : Place → Answer) (p : Place)
     (best : (byte : ℕ) (p′ : Place) → step a byte p ≡ some p′ → IsBest (Q p′) (go p′)) where
@@ -56,7 +56,8 @@ module _ (a : Automaton) (Q : Place → List ℕ → ℕ → Type 0) (go : Place
   steps-best : (bytes : List ℕ) → IsBest (SteppingBy a Q p bytes) (overSteps go a p bytes)
   steps-best [] = λ ks C s. List·Memᴰ·not-nil (s .listed)
   steps-best (byte ∷ bytes) =
-      is-best-map (overSteps go a p (byte ∷ bytes)) (λ ks C k. ⊎-elim (here ks C) (later ks C) k) (λ ks C s. split ks C s (List·Memᴰ·cases-cons (s .listed)))
+      is-best-map (overSteps go a p (byte ∷ bytes)) (λ ks C k. ⊎-elim (here ks C) (later ks C) k)
+      (λ ks C s. split ks C s (List·Memᴰ·cases-cons (s .listed)))
       (is-best-better (Stepping a Q p byte) (SteppingBy a Q p bytes)
       (elim (step a byte p) [ none ↦ noRoute | some p′ ↦ behind byte (go p′) ]) (overSteps go a p bytes) (step-best byte) (steps-best bytes))
     where
@@ -81,36 +82,42 @@ module _ (a : Automaton) (ok : Proper a) (l : ℕ) where
   abbrev Stops : Place → List ℕ → ℕ → Type 0
   Stops p ks C = (ks ≡ []) × From p ks C
 
-  -- To stop at a place comes at each of its prices, if its mode is l.
-  stops-price : (p : Place) (ks : List ℕ) (C : ℕ) → Reached a p → Stops p ks C → (p .mode ≡ l) × List·Memᴰ C (p .region .prices)
-  stops-price p ks C h s =
-      let o = arrives-here (cornerGraph a l) (chains a) p C (subst (λ (js : List ℕ). From p js C) (s .0) (s .1)) in
-      (
-        target-mode a ok l p h (o .0) (o .1) .0 (o .2),
-        subst (λ (c : ℕ). List·Memᴰ c (p .region .prices)) (o .3) (mem-getD (p .region .prices) (o .0) 0 (o .1)),
-      )
-
-  price-stops : (p : Place) (C : ℕ) → Reached a p → p .mode ≡ l → List·Memᴰ C (p .region .prices) → From p [] C
-  price-stops p C h e m =
-      let o = mem-place (p .region .prices) C m in
-      record { last = p; follows = refl; corner = o .0; among = o .1; target = target-mode a ok l p h (o .0) (o .1) .1 e; priced = o .2 0 }
+  -- No steps come at each price of the place, if its mode is l.
+  stops-price : (p : Place) (C : ℕ) → Reached a p → From p [] C ↔ ((p .mode ≡ l) × List·Memᴰ C (p .region .prices))
+  stops-price p C h = (
+    λ f.
+        let o = arrives-here (cornerGraph a l) (chains a) p C f in
+        (target-mode a ok l p h (o .0) (o .1) .0 (o .2), price-corner (p .region .prices) C .1 (o .0, o .1, o .3)),
+    λ m.
+        let o = price-corner (p .region .prices) C .0 (m .1) in
+        record {
+          last = p;
+          follows = refl;
+          corner = o .0;
+          among = o .1;
+          target = target-mode a ok l p h (o .0) (o .1) .1 (m .0);
+          priced = o .2;
+        },
+  )
 
   stopping-best : (p : Place) → Reached a p → IsBest (Stops p) (stopping l p)
   stopping-best p h = at (eqb (p .mode) l) refl
     where
+      cs : List ℕ
+      cs = p .region .prices
+
+      known : (ks : List ℕ) (C : ℕ) → Stops p ks C → (p .mode ≡ l) × List·Memᴰ C (p .region .prices)
+      known ks C s = stops-price p C h .0 (subst (λ (js : List ℕ). From p js C) (s .0) (s .1))
+
       at : (b : Bool) → eqb (p .mode) l ≡ b → IsBest (Stops p) (cond b (route (least (p .region .prices)) []) noRoute)
       at true e = record {
-        least = λ ks C s.
-            cost-both (cost (least (p .region .prices)) 0) (cost C (length ks)) (least-most (p .region .prices) C (stops-price p ks C h s .1)) (omega arith);
+        least = λ ks C s. cost-both (cost (least cs) 0) (cost C (length ks)) (least-most cs C (known ks C s .1)) (omega arith);
         first = record {
-          good = (
-            (refl, price-stops p (least (p .region .prices)) h (eqb-true (p .mode) l e) (least-listed (p .region .prices) (h .well-formed .priced))),
-            refl,
-          );
+          good = ((refl, stops-price p (least cs) h .1 (eqb-true (p .mode) l e, least-listed cs (h .well-formed .priced))), refl);
           first = λ ks s. tt;
         };
       }
-      at false e = λ ks C s. eqb-false (p .mode) l e (stops-price p ks C h s .0)
+      at false e = λ ks C s. eqb-false (p .mode) l e (known ks C s .0)
 
   empty : (ks : List ℕ) → length ks < 1 → ks ≡ []
   empty [] h = refl
@@ -124,8 +131,7 @@ module _ (a : Automaton) (ok : Proper a) (l : ℕ) where
   kinds-few n p ks C (inl s) = (s .1, omega (arith, ap length (s .0)))
   kinds-few n p ks C (inr s) =
       let f = s .first in
-      let b = f .before in
-      (
+      let b = f .before in (
         subst (λ (js : List ℕ). From p js C) (sym (b .is))
             (arrives-cons (cornerGraph a l) (chains a) p (f .next) (s .byte) (b .rest) C (f .step) (b .comes .0)),
         omega (arith, ap length (b .is), b .comes .1),

@@ -2,29 +2,27 @@
 -- nodes; and none weighs more than the greatest rate or price.
 -- Assumes nothing.
 use mathlib.Core.Path.{_≡_, refl, ap, _∙_, sym, subst, fun-ext}
-use mathlib.Core.List.{List, [], _∷_, map, List·Memᴰ, List·Memᴰ·not-nil, Memᴰ·map, Memᴰ·of-map}
+use mathlib.Core.List.{List, [], map, List·Memᴰ, List·Memᴰ·not-nil, Memᴰ·map, Memᴰ·of-map}
 use mathlib.Core.Option.{Option, none, some, Option·some-injective, Option·none-ne-some}
 use Prim.Native.Nat.{ℕ, _<_, _≤_}
 use native.Mathlib.Omega.{arith}
 use lib.Dec.{eqb}
 use lib.ListN.{length}
 use Rattle.semantics.specs.Automaton.{Automaton, Proper}
-use Rattle.semantics.specs.Region.{top}
 use Rattle.semantics.specs.Corner.{flatMap}
-use Rattle.semantics.specs.Path.{Edge, Graph, Leaves, Closed, WeightsWithin}
+use Rattle.semantics.specs.Path.{Edge, Leaves, Closed, WeightsWithin}
 use Rattle.semantics.specs.Node.{Node, nodeOf, nodeCount, nodeNumber, nodeAt}
 use Rattle.semantics.specs.Chain.{Place, step}
 use Rattle.semantics.specs.CornerPath.{Edge as CornerEdge, edges, SamePlace}
 use Rattle.semantics.specs.Answer.{stepBytes}
 use Rattle.semantics.specs.CornerGraph.{nodePlace, numberOf, numbered, stepEdges, placeEdges, cornerGraph, PricesWithin}
-use Rattle.semantics.specs.Regions.Lengths.{prices-top}
 use Rattle.semantics.specs.Corners.Lists.{mem-below, mem-flatMap, mem-of-flatMap}
 use Rattle.semantics.specs.Nodes.Number.{nodeAt-node}
 use Rattle.semantics.specs.Bounds.Steps.{Stepped, leaves, arrives, lingers, idles, moves, step-view, view-step}
 use Rattle.semantics.specs.Bounds.Shapes.{shape-sym}
 use Rattle.semantics.specs.Bounds.Alike.{edges-alike, step-alike}
-use Rattle.semantics.specs.Answers.Places.{IsPlace, number-below, number-node, node-same, node-place, node-index, place-step}
-use Rattle.semantics.specs.Answers.Edges.{StepEdge, step-edge}
+use Rattle.semantics.specs.Answers.Places.{IsPlace, corner-top, number-below, number-node, node-same, node-is-place, node-index, place-step}
+use Rattle.semantics.specs.Answers.Edges.{step-edge}
 
 same-sym : (p s : Place) → SamePlace p s → SamePlace s p
 same-sym p s e = record { mode = sym (e .mode); region = shape-sym _ _ (e .region) }
@@ -130,16 +128,14 @@ module _ (a : Automaton) (l : ℕ) where
     edge-facts =
         let x = nodeAt (a .ceilings) v in
         let n = nodeAt-node a v h in
-        let p = node-place a (ok .some-timer) x n in
-        let i = node-index a (ok .some-timer) x n in
+        let p = node-is-place a ok x n in
+        let i = corner-top (nodePlace x .region) (p .well-formed) (x .corner .index) .0 (node-index a ok x n) in
         let d = listed-step a (nodePlace x) (x .corner .index) e m in
         let s = step-view a (nodePlace x) (d .next) (e .label) (d .step) in
         let q = place-step a ok (nodePlace x) p s in
-        let f =
-        step-edge a ok (nodePlace x) p s (x .corner .index) (omega (arith, prices-top (nodePlace x .region) (p .well-formed .priced))) (d .edge) (d .listed) in
-        (
-          subst (λ (t : ℕ). t < nodeCount a) (sym (ap (λ (k : Edge). k .to) (d .is)))
-              (number-below a (d .next) q (d .edge .corner) (omega (arith, f .there, prices-top (d .next .region) (q .well-formed .priced)))),
+        let f = step-edge a ok (nodePlace x) p s (x .corner .index) i (d .edge) (d .listed) in
+        let b = corner-top (d .next .region) (q .well-formed) (d .edge .corner) .1 (f .there) in (
+          subst (λ (t : ℕ). t < nodeCount a) (sym (ap (λ (k : Edge). k .to) (d .is))) (number-below a (d .next) q (d .edge .corner) b),
           λ w k. subst (λ (t : ℕ). t ≤ w) (sym (ap (λ (k : Edge). k .weight) (d .is))) (f .light w k),
         )
 

@@ -1,26 +1,26 @@
 -- Places whose corners are nodes. Every place on a chain is one, every node is a corner of one, and steps lead from one to another.
 -- Assumes nothing.
-use mathlib.Core.Path.{_≡_, refl, ap, _∙_, sym}
+use mathlib.Core.Path.{_≡_, refl, _∙_}
 use mathlib.Core.Bool.{Bool, true, false}
-use mathlib.Core.List.{List, [], _∷_, List·Memᴰ}
-use Prim.Native.Nat.{ℕ, zero, suc, max, _<_, _≤_}
-use native.Mathlib.Nat.{le-antisymm}
+use mathlib.Core.Logic.{_↔_}
+use mathlib.Core.List.{List, [], _∷_}
+use Prim.Native.Nat.{ℕ, zero, suc, _<_, _≤_}
 use native.Mathlib.Omega.{arith}
 use lib.ListN.{length, getD, replicate, length-replicate}
 use Rattle.semantics.specs.Automaton.{Automaton, timers, moveAt, Proper}
-use Rattle.semantics.specs.Region.{PricedRegion, WellFormed, charge}
+use Rattle.semantics.specs.Region.{PricedRegion, WellFormed, top, charge}
 use Rattle.semantics.specs.Run.{among}
-use Rattle.semantics.specs.Corner.{Corner, cornerOf, corners}
-use Rattle.semantics.specs.Node.{Node, nodeOf, factor, IsCell, IsNode, nodeCount, nodeNumber, nodeAt}
+use Rattle.semantics.specs.Corner.{corners}
+use Rattle.semantics.specs.Node.{Node, nodeOf, factor, IsCell, IsNode, nodeCount, nodeAt}
 use Rattle.semantics.specs.Chain.{Place}
 use Rattle.semantics.specs.CornerPath.{SamePlace}
 use Rattle.semantics.specs.CornerGraph.{highest, nodePlace, numberOf}
 use Rattle.semantics.specs.Regions.Count.{count-place}
-use Rattle.semantics.specs.Regions.Lengths.{leave-timers, arrive-timers}
+use Rattle.semantics.specs.Regions.Lengths.{prices-top, leave-timers, arrive-timers}
 use Rattle.semantics.specs.Regions.WellFormed.{leave-well-formed, arrive-well-formed}
 use Rattle.semantics.specs.Corners.Lists.{mem-getD}
 use Rattle.semantics.specs.Corners.Complete.{corner-listed, IsCorner, corners-sound}
-use Rattle.semantics.specs.Nodes.Number.{nodeNumber-below, nodeAt-number, nodeAt-node, number-nodeAt}
+use Rattle.semantics.specs.Nodes.Number.{nodeNumber-below, nodeAt-number, number-nodeAt}
 use Rattle.semantics.specs.Nodes.Regions.{within-cell}
 use Rattle.semantics.specs.Bounds.Steps.{rateAt, movedBy, Stepped, leaves, arrives, lingers, idles, moves}
 use Rattle.semantics.specs.Bounds.Shapes.{shape-linger, shape-well-formed}
@@ -33,7 +33,11 @@ pub record IsPlace (a : Automaton) (p : Place) : Type 0 where
   pub cell : IsCell (a .ceilings) (p .region .whole)
   pub in-modes : p .mode < length (a .modes)
 
--- No group has a number above k, and some group has it.
+-- A corner is one of the k + 1.
+pub corner-top : (r : PricedRegion) → WellFormed r → (j : ℕ) → (j < length (r .prices)) ↔ (j ≤ top r)
+corner-top r w j = (λ h. omega (arith, prices-top r (w .priced)), λ h. omega (arith, prices-top r (w .priced)))
+
+-- The highest group: none has a higher number, and each bound of the numbers is above it.
 highest-bound : (gs : List ℕ) (i : ℕ) → getD gs i 0 ≤ highest gs
 highest-bound [] i = omega arith
 highest-bound (g ∷ gs) zero = omega arith
@@ -89,9 +93,9 @@ module _ (a : Automaton) where
     }
 
   -- Every node is a corner of its place.
-  module _ (some-timer : 0 < timers a) (x : Node) (n : IsNode a x) where
+  module _ (ok : Proper a) (x : Node) (n : IsNode a x) where
     node-corner : IsCorner (timers a) (x .corner)
-    node-corner = corners-sound (timers a) (x .corner) some-timer (n .corner)
+    node-corner = corners-sound (timers a) (x .corner) (ok .some-timer) (n .corner)
 
     node-prices : length (nodePlace x .region .prices) ≡ node-corner .prices
     node-prices =
@@ -99,8 +103,8 @@ module _ (a : Automaton) where
         let w = node-corner .well-formed r (n .cell .sized) refl (length-replicate (node-corner .prices) 0) in
         length-replicate (suc (highest (x .corner .group))) 0 ∙ highest-prices r w ∙ length-replicate (node-corner .prices) 0
 
-    pub node-place : IsPlace a (nodePlace x)
-    node-place = record {
+    pub node-is-place : IsPlace a (nodePlace x)
+    node-is-place = record {
       well-formed = node-corner .well-formed (nodePlace x .region) (n .cell .sized) refl node-prices;
       cell = n .cell;
       in-modes = n .mode;
@@ -109,13 +113,20 @@ module _ (a : Automaton) where
     pub node-index : x .corner .index < length (nodePlace x .region .prices)
     node-index = rw node-prices (node-corner .inside)
 
+  -- Every number below E is that of a corner of a place.
+  pub node-number :
+      (v : ℕ) → v < nodeCount a → numberOf a (nodePlace (nodeAt (a .ceilings) v)) (nodeAt (a .ceilings) v .corner .index) ≡ v
+  node-number v h = number-nodeAt a v h
+
   module _ (ok : Proper a) where
     -- Resets lower whole parts to 0 and keep the others.
     moved-cell : (e : ℕ) (r : PricedRegion) → WellFormed r → IsCell (a .ceilings) (r .whole) → IsCell (a .ceilings) (movedBy a e r .whole)
     unfolding charge
     moved-cell e r w c = record { sized = moved-sized a ok e r w (c .sized); below = λ t h. below t h (among t (moveAt a e .resets)) refl }
       where
-        below : (t : ℕ) → t < timers a → (b : Bool) → among t (moveAt a e .resets) ≡ b → getD (movedBy a e r .whole) t 0 < factor (getD (a .ceilings) t 0)
+        below :
+            (t : ℕ) → t < timers a → (b : Bool) → among t (moveAt a e .resets) ≡ b
+            → getD (movedBy a e r .whole) t 0 < factor (getD (a .ceilings) t 0)
         below t h true b = omega (arith, moved-to a ok e r w (c .sized) .zero-whole t (omega (arith, c .sized)) b)
         below t h false b = omega (arith, moved-to a ok e r w (c .sized) .same-whole t (omega (arith, c .sized)) b, c .below t h)
 

@@ -1,11 +1,10 @@
 -- What the words of the search say of the answer, and how the route is read off them byte by byte: what the code that plans a table rests on.
 -- Assumes nothing.
-use mathlib.Core.Path.{_≡_, refl, ap, _∙_, sym, subst}
-use mathlib.Core.Bool.{Bool, true, false}
+use mathlib.Core.Path.{_≡_, refl}
 use mathlib.Core.Logic.{_↔_, _≢_}
 use mathlib.Core.List.{List, [], _∷_, _++_}
 use mathlib.Core.Option.{some}
-use Prim.Native.Nat.{ℕ, suc, _+_, _<_}
+use Prim.Native.Nat.{ℕ, suc, _<_}
 use native.Mathlib.Decide.{ℕ-discrete}
 use native.Mathlib.Omega.{arith}
 use lib.ListN.{length}
@@ -18,15 +17,21 @@ use Rattle.semantics.specs.Bounds.Prices.{price}
 use Rattle.semantics.specs.Bounds.Reached.{Reached, reached-begin}
 use Rattle.semantics.specs.Bounds.Steps.{step-view, chain-snoc}
 use Rattle.semantics.specs.Paths.Words.{table-unreached, table-reached}
-use Rattle.semantics.specs.Paths.Route.{Completes, Picks, Onward}
+use Rattle.semantics.specs.Paths.Route.{Completes}
 use Rattle.semantics.specs.Paths.Prefix.{Prefix, WordsComplete, words-completes, completes-words, prefix-none, prefix-onward, prefix-more, prefix-first}
 use Rattle.semantics.specs.Paths.Greedy.{greedy}
 use Rattle.semantics.specs.Answers.System.{chains, bytes-below}
 use Rattle.semantics.specs.Answers.Table.{routing, unreached-answer, first-answer, begin-completes, begin-bound, greedy-answer, greedy-steps}
 
--- The cost in the words of the start node.
+-- The words of the start node: the charge and the number of steps.
+abbrev pub startCharge : Automaton → List ℕ → ℕ
+startCharge a ws = chargeAt ws (startNode a)
+
+abbrev pub startSteps : Automaton → List ℕ → ℕ
+startSteps a ws = stepsAt ws (startNode a)
+
 abbrev pub startCost : Automaton → List ℕ → Cost
-startCost a ws = cost (chargeAt ws (startNode a)) (stepsAt ws (startNode a))
+startCost a ws = cost (startCharge a ws) (startSteps a ws)
 
 -- By the words, the cost c can be completed from a place: at some corner the price and the charge of the corner's node add up to the charge
 -- of c, and the node has as many steps as c.
@@ -43,31 +48,31 @@ pub record Chosen (a : Automaton) (ws : List ℕ) (p : Place) (c : Cost) (byte :
 
 -- The loop that reads the route has chosen the bytes ks, which lead to the place p, and n bytes are to come.
 pub record ReadSoFar (a : Automaton) (l : ℕ) (ws ks : List ℕ) (p : Place) (n : ℕ) : Type 0 where
-  pub known : chargeAt ws (startNode a) ≢ infinity
+  pub known : startCharge a ws ≢ infinity
   pub chained : chain a ks ≡ some p
   pub prefix : Prefix (cornerGraph a l) (chains a) (Reached a) (table ws) (begin a) (startCost a ws) ks p n
 
 -- What words that hold the least costs of the corner graph say of the answer.
 pub record Reading (a : Automaton) (l : ℕ) (ws : List ℕ) : Type 0 where
   -- The answer is no route exactly if the start node is unreached.
-  pub none : (chargeAt ws (startNode a) ≡ infinity) ↔ (answer a l ≡ noRoute)
+  pub none : (startCharge a ws ≡ infinity) ↔ (answer a l ≡ noRoute)
   -- If it is reached, its words are the charge of the route and its number of steps.
   pub found :
-      chargeAt ws (startNode a) ≢ infinity
-      → (ks : List ℕ) × (answer a l ≡ route (chargeAt ws (startNode a)) ks) × (length ks ≡ stepsAt ws (startNode a))
+      startCharge a ws ≢ infinity
+      → (ks : List ℕ) × (answer a l ≡ route (startCharge a ws) ks) × (length ks ≡ startSteps a ws)
   -- The loop begins at the start, with no byte chosen and all steps to come.
-  pub begins : chargeAt ws (startNode a) ≢ infinity → ReadSoFar a l ws [] (begin a) (stepsAt ws (startNode a))
+  pub begins : startCharge a ws ≢ infinity → ReadSoFar a l ws [] (begin a) (startSteps a ws)
   -- While bytes are to come, some byte below 66 leads to a place from which the rest can be completed.
   pub onward :
       (ks : List ℕ) (p : Place) (n : ℕ) → ReadSoFar a l ws ks p (suc n)
       → (byte : ℕ) × (p′ : Place) × (byte < 66) × (step a byte p ≡ some p′)
-      × CanComplete a ws p′ (cost (chargeAt ws (startNode a)) n)
+      × CanComplete a ws p′ (cost (startCharge a ws) n)
   -- The byte of the greedy rule is added.
   pub more :
       (ks : List ℕ) (p : Place) (n byte : ℕ) (p′ : Place) → ReadSoFar a l ws ks p (suc n)
-      → Chosen a ws p (cost (chargeAt ws (startNode a)) n) byte p′ → ReadSoFar a l ws (ks ++ byte ∷ []) p′ n
+      → Chosen a ws p (cost (startCharge a ws) n) byte p′ → ReadSoFar a l ws (ks ++ byte ∷ []) p′ n
   -- When no byte is to come, the chosen bytes are the route.
-  pub ends : (ks : List ℕ) (p : Place) → ReadSoFar a l ws ks p 0 → answer a l ≡ route (chargeAt ws (startNode a)) ks
+  pub ends : (ks : List ℕ) (p : Place) → ReadSoFar a l ws ks p 0 → answer a l ≡ route (startCharge a ws) ks
 
 -- The test of the words is that of the table.
 module _ (a : Automaton) (ws : List ℕ) (p : Place) (c : Cost) where
@@ -78,17 +83,17 @@ module _ (a : Automaton) (ws : List ℕ) (p : Place) (c : Cost) where
   completes-can t = record { corner = t .corner; there = t .among; words = completes-words (chains a) ws p c t }
 
 module _ (a : Automaton) (ok : Proper a) (l : ℕ) (ws : List ℕ) (exact : LeastCosts (cornerGraph a l) (table ws)) where
-  module _ (known : chargeAt ws (startNode a) ≢ infinity) where
+  module _ (known : startCharge a ws ≢ infinity) where
     found :
-        (ks : List ℕ) × (answer a l ≡ route (chargeAt ws (startNode a)) ks) × (length ks ≡ stepsAt ws (startNode a))
+        (ks : List ℕ) × (answer a l ≡ route (startCharge a ws) ks) × (length ks ≡ startSteps a ws)
     found =
         let q = table-reached ws (startNode a) known in (
-          greedy (chains a) (table ws) 66 (chargeAt ws (startNode a)) (stepsAt ws (startNode a)) (begin a),
+          greedy (chains a) (table ws) 66 (startCharge a ws) (startSteps a ws) (begin a),
           greedy-answer a ok l (table ws) exact (startCost a ws) q,
           greedy-steps a ok l (table ws) exact (startCost a ws) q,
         )
 
-    begins : ReadSoFar a l ws [] (begin a) (stepsAt ws (startNode a))
+    begins : ReadSoFar a l ws [] (begin a) (startSteps a ws)
     unfolding chain follow
     begins =
         let q = table-reached ws (startNode a) known in
@@ -102,13 +107,13 @@ module _ (a : Automaton) (ok : Proper a) (l : ℕ) (ws : List ℕ) (exact : Leas
   module _ (ks : List ℕ) (p : Place) (n : ℕ) (r : ReadSoFar a l ws ks p (suc n)) where
     onward :
         (byte : ℕ) × (p′ : Place) × (byte < 66) × (step a byte p ≡ some p′)
-        × CanComplete a ws p′ (cost (chargeAt ws (startNode a)) n)
+        × CanComplete a ws p′ (cost (startCharge a ws) n)
     onward =
         let o = prefix-onward (routing a ok l (table ws) exact) (begin a) (startCost a ws) ks p n (r .prefix) in
         (o .label, o .next, bytes-below a ok p (o .next) (o .label) (r .prefix .valid) (o .step), o .step, completes-can a ws (o .next) _ (o .completes))
 
     more :
-        (byte : ℕ) (p′ : Place) → Chosen a ws p (cost (chargeAt ws (startNode a)) n) byte p′ → ReadSoFar a l ws (ks ++ byte ∷ []) p′ n
+        (byte : ℕ) (p′ : Place) → Chosen a ws p (cost (startCharge a ws) n) byte p′ → ReadSoFar a l ws (ks ++ byte ∷ []) p′ n
     more byte p′ c = record {
       known = r .known;
       chained = chain-snoc a ks byte p p′ (r .chained) (step-view a p p′ byte (c .allowed));
@@ -120,15 +125,15 @@ module _ (a : Automaton) (ok : Proper a) (l : ℕ) (ws : List ℕ) (exact : Leas
           });
     }
 
-  ends : (ks : List ℕ) (p : Place) → ReadSoFar a l ws ks p 0 → answer a l ≡ route (chargeAt ws (startNode a)) ks
+  ends : (ks : List ℕ) (p : Place) → ReadSoFar a l ws ks p 0 → answer a l ≡ route (startCharge a ws) ks
   ends ks p r =
       first-answer a ok l (table ws) exact (startCost a ws) (table-reached ws (startNode a) (r .known)) ks
       (prefix-first (routing a ok l (table ws) exact) (begin a) (startCost a ws) ks p (r .prefix))
 
-  none-unreached : answer a l ≡ noRoute → chargeAt ws (startNode a) ≡ infinity
-  none-unreached e = at (ℕ-discrete (chargeAt ws (startNode a)) infinity)
+  none-unreached : answer a l ≡ noRoute → startCharge a ws ≡ infinity
+  none-unreached e = at (ℕ-discrete (startCharge a ws) infinity)
     where
-      at : Dec (chargeAt ws (startNode a) ≡ infinity) → chargeAt ws (startNode a) ≡ infinity
+      at : Dec (startCharge a ws ≡ infinity) → startCharge a ws ≡ infinity
       at (yes q) = q
       at (no n) = let f = found n in let z : _≡_ {A = ℕ} 0 1 = cc (f .1) in absurd (omega arith)
 

@@ -1,20 +1,21 @@
 -- Chains as a system over the corner graph: the states are the places, a label is a step byte, and the corners of a place are nodes with
 -- their prices. It follows the edges of the graph from every place that a chain reaches, so the theory of routes (Paths) goes for chains.
 -- Assumes nothing.
-use mathlib.Core.Path.{_≡_, refl, ap, _∙_, sym}
+use mathlib.Core.Path.{_≡_, refl, ap, _∙_, sym, subst}
 use mathlib.Core.Logic.{_↔_}
+use mathlib.Core.List.{List, List·Memᴰ}
 use mathlib.Core.Option.{some}
-use Prim.Native.Nat.{ℕ, _<_, _≤_}
+use Prim.Native.Nat.{ℕ, _<_}
 use native.Mathlib.Omega.{arith}
 use borrow.Author.Tests.{eqb-true, eq-eqb}
-use lib.ListN.{length}
+use lib.ListN.{length, getD}
 use Rattle.semantics.specs.Automaton.{Automaton, Proper}
-use Rattle.semantics.specs.Region.{top, start}
+use Rattle.semantics.specs.Region.{start}
 use Rattle.semantics.specs.Path.{Edge, Leaves, Target}
 use Rattle.semantics.specs.Node.{nodeCount}
 use Rattle.semantics.specs.Chain.{Place, step, begin}
 use Rattle.semantics.specs.CornerGraph.{numberOf, startNode, numbered, cornerGraph}
-use Rattle.semantics.specs.Regions.Lengths.{prices-top}
+use Rattle.semantics.specs.Corners.Lists.{mem-getD, mem-place}
 use Rattle.semantics.specs.Bounds.Prices.{price}
 use Rattle.semantics.specs.Bounds.Steps.{step-view}
 use Rattle.semantics.specs.Bounds.Reached.{Reached, reached-begin, reached-step}
@@ -22,7 +23,7 @@ use Rattle.semantics.specs.Bounds.Flow.{step-flow}
 use Rattle.semantics.specs.Paths.System.{System, Predecessor, Successor, Follows}
 use Rattle.semantics.specs.Paths.Start.{StartsAt}
 use Rattle.semantics.specs.Paths.Greedy.{LabelsBelow}
-use Rattle.semantics.specs.Answers.Places.{reached-place, number-below}
+use Rattle.semantics.specs.Answers.Places.{corner-top, reached-place, number-below}
 use Rattle.semantics.specs.Answers.Graph.{label-below, step-listed, listed-step, graph-edges, graph-target}
 
 -- The places and their steps, with the number and the price of each corner.
@@ -35,24 +36,26 @@ chains a = record {
   price = λ p j. price (p .region) j;
 }
 
+-- A price in the list is the price of a corner.
+pub price-corner : (cs : List ℕ) (C : ℕ) → List·Memᴰ C cs ↔ ((j : ℕ) × (j < length cs) × (getD cs j 0 ≡ C))
+price-corner cs C = (
+  λ m. let o = mem-place cs C m in (o .0, o .1, o .2 0),
+  λ o. subst (λ (c : ℕ). List·Memᴰ c cs) (o .2) (mem-getD cs (o .0) 0 (o .1)),
+)
+
 module _ (a : Automaton) (ok : Proper a) where
-  -- A corner is one of the k + 1.
-  corner-top : (p : Place) → Reached a p → (j : ℕ) → j < length (p .region .prices) → j ≤ top (p .region)
-  corner-top p h j b = omega (arith, prices-top (p .region) (h .well-formed .priced))
-
-  top-corner : (p : Place) → Reached a p → (j : ℕ) → j ≤ top (p .region) → j < length (p .region .prices)
-  top-corner p h j b = omega (arith, prices-top (p .region) (h .well-formed .priced))
-
+  -- An allowed step leads from a place that is reached to one that is.
   pub reached-next : (p p′ : Place) (byte : ℕ) → Reached a p → step a byte p ≡ some p′ → Reached a p′
   reached-next p p′ byte h f = reached-step a ok byte p p′ h (step-view a p p′ byte f)
 
   module _ (l : ℕ) where
-    pub predecessor :
+    predecessor :
         (p p′ : Place) (byte i : ℕ) → Reached a p → step a byte p ≡ some p′ → i < length (p′ .region .prices)
         → Predecessor (cornerGraph a l) (chains a) p byte p′ i
     predecessor p p′ byte i h f b =
-        let c = step-flow a ok p h (step-view a p p′ byte f) .attained i (corner-top p′ (reached-next p p′ byte h f) i b) in
-        let j = top-corner p h (c .from) (c .there) in
+        let i′ = corner-top (p′ .region) (reached-next p p′ byte h f .well-formed) i .0 b in
+        let c = step-flow a ok p h (step-view a p p′ byte f) .attained i i′ in
+        let j = corner-top (p .region) (h .well-formed) (c .from) .1 (c .there) in
         record {
           corner = c .from;
           among = j;
@@ -68,12 +71,13 @@ module _ (a : Automaton) (ok : Proper a) where
         → Successor (cornerGraph a l) (chains a) p j e
     successor p j e h b m =
         let d = listed-step a p j e (rw (graph-edges a l p (reached-place a p h) j b) at m) in
-        let o = step-flow a ok p h (step-view a p (d .next) (e .label) (d .step)) .least j (corner-top p h j b) (d .edge) (d .listed) in
+        let j′ = corner-top (p .region) (h .well-formed) j .0 b in
+        let o = step-flow a ok p h (step-view a p (d .next) (e .label) (d .step)) .least j j′ (d .edge) (d .listed) in
         record {
           next = d .next;
           step = d .step;
           corner = d .edge .corner;
-          among = top-corner (d .next) (reached-next p (d .next) (e .label) h (d .step)) (d .edge .corner) (o .there);
+          among = corner-top (d .next .region) (reached-next p (d .next) (e .label) h (d .step) .well-formed) (d .edge .corner) .1 (o .there);
           leads = sym (ap (λ (k : Edge). k .to) (d .is));
           priced = omega (arith, o .least, ap (λ (k : Edge). k .weight) (d .is));
         }

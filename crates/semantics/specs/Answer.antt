@@ -73,7 +73,7 @@ unfoldable pub bestFrom : Automaton → ℕ → ℕ → Place → Answer
 bestFrom a l zero p = stopping l p
 bestFrom a l (suc n) p = better (stopping l p) (overSteps (λ p′. bestFrom a l n p′) a p stepBytes)
 
--- The answer for the goal l: no chain of E steps or more is better than all shorter ones (a theorem), so that E - 1 steps are enough.
+-- The answer for the goal l: no chain of E steps or more is better than all shorter ones (Answers.Best), so that E - 1 steps are enough.
 unfoldable pub answer : Automaton → ℕ → Answer
 answer a l = bestFrom a l (pred (nodeCount a)) (begin a)
 

@@ -109,6 +109,10 @@ module _ (a : Automaton) (p : Place) where
             subst (PlaceEdge a p j) (d .2) (record { next = p′; step = f; edge = d .0; listed = d .1; is = refl })
 
 module _ (a : Automaton) (l : ℕ) where
+  pub graph-nodes : cornerGraph a l .nodes ≡ nodeCount a
+  unfolding cornerGraph
+  graph-nodes = refl
+
   -- The node that is corner j of a place has the edges of that corner, and is a target if the place's mode is l.
   module _ (p : Place) (h : IsPlace a p) (j : ℕ) (b : j < length (p .region .prices)) where
     pub graph-edges : cornerGraph a l .edges (numberOf a p j) ≡ placeEdges a p j

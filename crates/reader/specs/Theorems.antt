@@ -8,3 +8,4 @@ pub mod Rows
 pub mod Limits
 pub mod Proper
 pub mod Holding
+pub mod Starred

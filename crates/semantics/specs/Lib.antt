@@ -12,9 +12,12 @@ pub mod Chain
 pub mod CornerPath
 pub mod Floor
 pub mod Demand
+pub mod Answer
+pub mod CornerGraph
 -- Theorems:
 pub mod Regions
 pub mod Corners
 pub mod Nodes
 pub mod Bounds
 pub mod Paths
+pub mod Answers

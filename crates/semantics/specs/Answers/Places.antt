@@ -1,0 +1,159 @@
+-- Places whose corners are nodes. Every place on a chain is one, every node is a corner of one, and steps lead from one to another.
+-- Assumes nothing.
+use mathlib.Core.Path.{_≡_, refl, _∙_}
+use mathlib.Core.Bool.{Bool, true, false}
+use mathlib.Core.Logic.{_↔_}
+use mathlib.Core.List.{List, [], _∷_}
+use Prim.Native.Nat.{ℕ, zero, suc, _<_, _≤_}
+use native.Mathlib.Omega.{arith}
+use lib.ListN.{length, getD, replicate, length-replicate}
+use Rattle.semantics.specs.Automaton.{Automaton, timers, moveAt, Proper}
+use Rattle.semantics.specs.Region.{PricedRegion, WellFormed, top, charge}
+use Rattle.semantics.specs.Run.{among}
+use Rattle.semantics.specs.Corner.{corners}
+use Rattle.semantics.specs.Node.{Node, nodeOf, factor, IsCell, IsNode, nodeCount, nodeAt}
+use Rattle.semantics.specs.Chain.{Place}
+use Rattle.semantics.specs.CornerPath.{SamePlace}
+use Rattle.semantics.specs.CornerGraph.{highest, nodePlace, numberOf}
+use Rattle.semantics.specs.Regions.Count.{count-place}
+use Rattle.semantics.specs.Regions.Lengths.{prices-top, leave-timers, arrive-timers}
+use Rattle.semantics.specs.Regions.WellFormed.{leave-well-formed, arrive-well-formed}
+use Rattle.semantics.specs.Corners.Lists.{mem-getD}
+use Rattle.semantics.specs.Corners.Complete.{corner-listed, IsCorner, corners-sound}
+use Rattle.semantics.specs.Nodes.Number.{nodeNumber-below, nodeAt-number, number-nodeAt}
+use Rattle.semantics.specs.Nodes.Regions.{within-cell}
+use Rattle.semantics.specs.Bounds.Steps.{rateAt, movedBy, Stepped, leaves, arrives, lingers, idles, moves}
+use Rattle.semantics.specs.Bounds.Shapes.{shape-linger, shape-well-formed}
+use Rattle.semantics.specs.Bounds.Moved.{moved-well-formed, moved-sized, moved-to}
+use Rattle.semantics.specs.Bounds.Reached.{Reached}
+
+-- A place whose corners are nodes: a well-formed region of a cell, in a mode. Its region need not meet the mode's conditions.
+pub record IsPlace (a : Automaton) (p : Place) : Type 0 where
+  pub well-formed : WellFormed (p .region)
+  pub cell : IsCell (a .ceilings) (p .region .whole)
+  pub in-modes : p .mode < length (a .modes)
+
+-- A corner is one of the k + 1.
+pub corner-top : (r : PricedRegion) → WellFormed r → (j : ℕ) → (j < length (r .prices)) ↔ (j ≤ top r)
+corner-top r w j = (λ h. omega (arith, prices-top r (w .priced)), λ h. omega (arith, prices-top r (w .priced)))
+
+-- The highest group: none has a higher number, and each bound of the numbers is above it.
+highest-bound : (gs : List ℕ) (i : ℕ) → getD gs i 0 ≤ highest gs
+highest-bound [] i = omega arith
+highest-bound (g ∷ gs) zero = omega arith
+highest-bound (g ∷ gs) (suc i) = omega (arith, highest-bound gs i)
+
+highest-below : (gs : List ℕ) (m : ℕ) → 0 < m → ((i : ℕ) → getD gs i 0 < m) → highest gs < m
+highest-below [] m pos h = pos
+highest-below (g ∷ gs) m pos h = omega (arith, h 0, highest-below gs m pos (λ i. h (suc i)))
+
+-- A well-formed region has k + 1 prices.
+highest-prices : (r : PricedRegion) → WellFormed r → suc (highest (r .group)) ≡ length (r .prices)
+highest-prices r w = go (length (r .prices)) refl
+  where
+    go : (n : ℕ) → length (r .prices) ≡ n → suc (highest (r .group)) ≡ length (r .prices)
+    go zero e = absurd (omega (arith, w .priced))
+    go (suc zero) e = omega (arith, highest-below (r .group) (length (r .prices)) (w .priced) (w .below))
+    go (suc (suc n)) e =
+        let o = count-place (suc n) (r .group) (w .full (suc n) (omega arith) (omega arith)) in
+        omega (arith, o .2, highest-bound (r .group) (o .0), highest-below (r .group) (length (r .prices)) (w .priced) (w .below))
+
+module _ (a : Automaton) where
+  pub reached-place : (p : Place) → Reached a p → IsPlace a p
+  reached-place p h = record {
+    well-formed = h .well-formed;
+    cell = within-cell (p .region) (h .well-formed) (a .ceilings) (h .sized) (h .admits .ceilings);
+    in-modes = h .in-modes;
+  }
+
+  module _ (p : Place) (h : IsPlace a p) (j : ℕ) (b : j < length (p .region .prices)) where
+    -- Its corners are nodes.
+    pub corner-node : IsNode a (nodeOf (p .mode) (p .region) j)
+    corner-node = record {
+      mode = h .in-modes;
+      cell = h .cell;
+      corner = rw (h .cell .sized) at (corner-listed (p .region) (h .well-formed) j b);
+    }
+
+    pub number-below : numberOf a p j < nodeCount a
+    number-below = nodeNumber-below a (nodeOf (p .mode) (p .region) j) corner-node
+
+    pub number-node : nodeAt (a .ceilings) (numberOf a p j) ≡ nodeOf (p .mode) (p .region) j
+    number-node = nodeAt-number a (nodeOf (p .mode) (p .region) j) corner-node
+
+    -- The place of the node differs from p at most in what its prices are.
+    pub node-same : SamePlace (nodePlace (nodeOf (p .mode) (p .region) j)) p
+    node-same = record {
+      mode = refl;
+      region = record {
+        whole = refl;
+        group = refl;
+        corners = length-replicate (suc (highest (p .region .group))) 0 ∙ highest-prices (p .region) (h .well-formed);
+      };
+    }
+
+  -- Every node is a corner of its place.
+  module _ (ok : Proper a) (x : Node) (n : IsNode a x) where
+    node-corner : IsCorner (timers a) (x .corner)
+    node-corner = corners-sound (timers a) (x .corner) (ok .some-timer) (n .corner)
+
+    node-prices : length (nodePlace x .region .prices) ≡ node-corner .prices
+    node-prices =
+        let r : PricedRegion = record { whole = x .whole; group = x .corner .group; prices = replicate (node-corner .prices) 0 } in
+        let w = node-corner .well-formed r (n .cell .sized) refl (length-replicate (node-corner .prices) 0) in
+        length-replicate (suc (highest (x .corner .group))) 0 ∙ highest-prices r w ∙ length-replicate (node-corner .prices) 0
+
+    pub node-is-place : IsPlace a (nodePlace x)
+    node-is-place = record {
+      well-formed = node-corner .well-formed (nodePlace x .region) (n .cell .sized) refl node-prices;
+      cell = n .cell;
+      in-modes = n .mode;
+    }
+
+    pub node-index : x .corner .index < length (nodePlace x .region .prices)
+    node-index = rw node-prices (node-corner .inside)
+
+  -- Every number below E is that of a corner of a place.
+  pub node-number :
+      (v : ℕ) → v < nodeCount a → numberOf a (nodePlace (nodeAt (a .ceilings) v)) (nodeAt (a .ceilings) v .corner .index) ≡ v
+  node-number v h = number-nodeAt a v h
+
+  module _ (ok : Proper a) where
+    -- Resets lower whole parts to 0 and keep the others.
+    moved-cell : (e : ℕ) (r : PricedRegion) → WellFormed r → IsCell (a .ceilings) (r .whole) → IsCell (a .ceilings) (movedBy a e r .whole)
+    unfolding charge
+    moved-cell e r w c = record { sized = moved-sized a ok e r w (c .sized); below = λ t h. below t h (among t (moveAt a e .resets)) refl }
+      where
+        below :
+            (t : ℕ) → t < timers a → (b : Bool) → among t (moveAt a e .resets) ≡ b
+            → getD (movedBy a e r .whole) t 0 < factor (getD (a .ceilings) t 0)
+        below t h true b = omega (arith, moved-to a ok e r w (c .sized) .zero-whole t (omega (arith, c .sized)) b)
+        below t h false b = omega (arith, moved-to a ok e r w (c .sized) .same-whole t (omega (arith, c .sized)) b, c .below t h)
+
+    -- An allowed step leads from such a place to such a place.
+    pub place-step : {byte : ℕ} (p : Place) {p′ : Place} → IsPlace a p → Stepped a p byte p′ → IsPlace a p′
+    place-step p h (leaves z t) =
+        let w = leave-well-formed (p .region) (h .well-formed) (rateAt a p) z in
+        record {
+          well-formed = w;
+          cell = within-cell _ w (a .ceilings) (leave-timers (p .region) _ .whole ∙ h .cell .sized) (t .ceilings);
+          in-modes = h .in-modes;
+        }
+    place-step p h (arrives z t) =
+        let w = arrive-well-formed (p .region) (h .well-formed) z in
+        record {
+          well-formed = w;
+          cell = within-cell _ w (a .ceilings) (arrive-timers (p .region) .whole ∙ h .cell .sized) (t .ceilings);
+          in-modes = h .in-modes;
+        }
+    place-step p h (lingers z) = record {
+      well-formed = shape-well-formed _ _ (shape-linger (rateAt a p) (p .region)) (h .well-formed);
+      cell = h .cell;
+      in-modes = h .in-modes;
+    }
+    place-step p h (idles z) = h
+    place-step p h (moves e b i o g m) = record {
+      well-formed = moved-well-formed a ok e (p .region) (h .well-formed) (h .cell .sized);
+      cell = moved-cell e (p .region) (h .well-formed) (h .cell);
+      in-modes = ok .target-there (moveAt a e) (mem-getD (a .moves) e _ i);
+    }

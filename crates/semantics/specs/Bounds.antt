@@ -14,7 +14,6 @@ pub mod Shapes
 pub mod Alike
 pub mod Moved
 pub mod Reached
-pub mod Nodes
 -- Prices along edges, corner paths.
 pub mod Flow
 pub mod Paths

@@ -54,7 +54,7 @@ module _ (a : Automaton) (ok : Proper a) where
         → Predecessor (cornerGraph a l) (chains a) p byte p′ i
     predecessor p p′ byte i h f b =
         let i′ = corner-top (p′ .region) (reached-next p p′ byte h f .well-formed) i .0 b in
-        let c = step-flow a ok p h (step-view a p p′ byte f) .attained i i′ in
+        let c = step-flow a ok p (h .well-formed) (h .sized) (step-view a p p′ byte f) .attained i i′ in
         let j = corner-top (p .region) (h .well-formed) (c .from) .1 (c .there) in
         record {
           corner = c .from;
@@ -72,7 +72,7 @@ module _ (a : Automaton) (ok : Proper a) where
     successor p j e h b m =
         let d = listed-step a p j e (rw (graph-edges a l p (reached-place a p h) j b) at m) in
         let j′ = corner-top (p .region) (h .well-formed) j .0 b in
-        let o = step-flow a ok p h (step-view a p (d .next) (e .label) (d .step)) .least j j′ (d .edge) (d .listed) in
+        let o = step-flow a ok p (h .well-formed) (h .sized) (step-view a p (d .next) (e .label) (d .step)) .least j j′ (d .edge) (d .listed) in
         record {
           next = d .next;
           step = d .step;

@@ -156,13 +156,13 @@ module _ (a : Automaton) (ok : Proper a) (e : ℕ) (r : PricedRegion) (w : WellF
           (record { there = omega (arith, to .there j h, moved-top a ok e r w sized); least = omega (arith, charged _ (to .there j h), to .least j h) })
 
 -- Every allowed step.
-module _ (a : Automaton) (ok : Proper a) (p : Place) (h : Reached a p) where
+module _ (a : Automaton) (ok : Proper a) (p : Place) (w : WellFormed (p .region)) (sized : length (p .region .whole) ≡ timers a) where
   pub step-flow : {byte : ℕ} {p′ : Place} → Stepped a p byte p′ → Flow (p .region) (p′ .region) (edges a byte p)
   unfolding edges
   step-flow (leaves z t) =
-      by-edges (λ j. rw (ne-eqb (count 0 (p .region .group)) 0 (λ e. omega arith))) (leave-flow (p .region) (h .well-formed) (rateAt a p))
-  step-flow (arrives z t) = by-edges (λ j. rw (eq-eqb (count 0 (p .region .group)) 0 z)) (arrive-flow (p .region) (h .well-formed) z)
+      by-edges (λ j. rw (ne-eqb (count 0 (p .region .group)) 0 (λ e. omega arith))) (leave-flow (p .region) w (rateAt a p))
+  step-flow (arrives z t) = by-edges (λ j. rw (eq-eqb (count 0 (p .region .group)) 0 z)) (arrive-flow (p .region) w z)
   step-flow (lingers z) =
-      by-edges (λ j. rw (eq-eqb (count 0 (p .region .group)) 0 z)) (linger-flow (p .region) (h .well-formed) (rateAt a p))
+      by-edges (λ j. rw (eq-eqb (count 0 (p .region .group)) 0 z)) (linger-flow (p .region) w (rateAt a p))
   step-flow (idles z) = by-edges (λ j. rw (ne-eqb (count 0 (p .region .group)) 0 (λ e. omega arith))) (idle-flow (p .region))
-  step-flow (moves e b i o g m) = by-edges (λ j. rw (lt-ltb e 64 b)) (move-flow a ok e (p .region) (h .well-formed) (h .sized))
+  step-flow (moves e b i o g m) = by-edges (λ j. rw (lt-ltb e 64 b)) (move-flow a ok e (p .region) w sized)

@@ -36,9 +36,9 @@ module _ (a : Automaton) where
         (B C : ℕ) (p s p′ s′ : Place) (byte : ℕ) → Reached a p → SamePlace p s → Stepped a p byte p′ → Stepped a s byte s′ → SamePlace p′ s′
         → AtMost B C p s → AtMost B C p′ s′
     step-compares B C p s p′ s′ byte h e t u e′ least i b =
-        let c = step-flow a ok s (reached-alike p s e h) u .attained i (omega (arith, shape-top _ _ (e′ .region))) in
+        let c = step-flow a ok s (reached-alike p s e h .well-formed) (reached-alike p s e h .sized) u .attained i (omega (arith, shape-top _ _ (e′ .region))) in
         let there : c .from ≤ top (p .region) = omega (arith, c .there, shape-top _ _ (e .region)) in
-        let o = step-flow a ok p h t .least (c .from) there (c .edge) (rw (edges-alike a byte p s e (c .from)) (c .listed)) in
+        let o = step-flow a ok p (h .well-formed) (h .sized) t .least (c .from) there (c .edge) (rw (edges-alike a byte p s e (c .from)) (c .listed)) in
         omega (arith, c .sum, least (c .from) there, o .least, ap (price (p′ .region)) (c .leads))
 
     -- And so after any steps.

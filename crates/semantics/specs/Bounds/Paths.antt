@@ -44,7 +44,7 @@ module _ (a : Automaton) (ok : Proper a) where
       let f = follow-first a byte bytes p p′ h in
       let s = step-view a p (f .0) byte (f .1) in
       let o = follow-path bytes (f .0) p′ (reached-step a ok byte p (f .0) r s) (f .2) i b in
-      let c = step-flow a ok p r s .attained (o .from) (o .there) in
+      let c = step-flow a ok p (r .well-formed) (r .sized) s .attained (o .from) (o .there) in
       record {
         from = c .from;
         there = c .there;
@@ -59,7 +59,7 @@ module _ (a : Automaton) (ok : Proper a) where
       → PathBound a (byte ∷ bytes) p j p′ i (e .weight + w)
   path-step byte bytes p p₁ p′ j i w r b s e m rest =
       let v = step-view a p p₁ byte s in
-      let c = step-flow a ok p r v .least j b e m in
+      let c = step-flow a ok p (r .well-formed) (r .sized) v .least j b e m in
       let o = rest (reached-step a ok byte p p₁ r v) (c .there) in
       record {
         found = follow-cons a byte bytes p p₁ s ∙ o .found;

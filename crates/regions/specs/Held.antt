@@ -2,10 +2,11 @@
 -- Assumes nothing.
 use mathlib.Core.Path.{_≡_}
 use mathlib.Core.List.{List, [], _∷_, _++_}
-use Prim.Native.Nat.{ℕ, suc, _+_, _-_, _≤_, _<_, _^_, max}
+use Prim.Native.Nat.{ℕ, suc, _+_, _-_, _≤_, _<_, _^_}
 use lib.ListN.{length, getD, take, replicate}
 use Rattle.semantics.specs.Region.{PricedRegion, WellFormed, top}
 use Rattle.semantics.specs.Corner.{Corner}
+pub use Rattle.semantics.specs.CornerGraph.{highest}
 pub use Rattle.reader.specs.Held.{pad}
 use Rattle.regions.specs.declared.Region.{Region}
 use Rattle.regions.specs.declared.CornerAt.{CornerAt}
@@ -48,11 +49,6 @@ PriceRoom amount r = (i : ℕ) → getD (r .prices) i 0 + amount < 2 ^ 32
 -- Every whole part can grow by one minute within a byte.
 abbrev pub WholeRoom : PricedRegion → Type 0
 WholeRoom r = (i : ℕ) → getD (r .whole) i 0 < 255
-
--- The number of the highest group.
-abbrev pub highest : List ℕ → ℕ
-highest [] = 0
-highest (g ∷ gs) = max g (highest gs)
 
 -- The struct that holds a corner.
 unfoldable pub packCorner : Corner → CornerAt

@@ -8,6 +8,7 @@ use mathlib.Core.List.{List, [], _∷_, _++_, append-nil, append-assoc}
 use borrow.Author.Tests.{le-leb, lt-leb, leb-true}
 use lib.Dec.{leb}
 use lib.ListN.{length}
+use Rattle.semantics.specs.Regions.Compare.{and-true-iff}
 use Rattle.reader.specs.Parser.{Parser, done, refuse, byte, _>>=_, inOrder, Outcome, refused, took, run}
 use Rattle.reader.specs.Format.{within, anyByte, ifStands}
 use Rattle.reader.specs.Layout.{Optional, present, absent, InRow, none, more}
@@ -99,10 +100,6 @@ finished v = record { lays = λ xs a e. let f : xs ≡ [] = cc in let g : v ≡ 
 pub false-true : false ≡ true → _≡_ {A = ℕ} 0 1
 false-true e = cc
 
-pub and-both : (s t : Bool) → s && t ≡ true → (s ≡ true) × (t ≡ true)
-and-both true t e = (refl, e)
-and-both false t e = let z : _≡_ {A = ℕ} 0 1 = false-true e in absurd (omega arith)
-
 -- The same relation in other words.
 pub reworded : {A : Type 0} {p : Parser A} {R S : List ℕ → A → Type 0} → ((xs : List ℕ) (a : A) → R xs a → S xs a) → ((xs : List ℕ) (a : A) → S xs a → R xs a) →
     Exactly p R → Exactly p S
@@ -139,7 +136,7 @@ guarded false v number = record {
 pub within-exactly : (number low high : ℕ) → Exactly (within number low high) (One (λ b. (low ≤ b) × (b ≤ high)))
 unfolding within
 within-exactly number low high =
-    reworded (λ xs a k. (k .0, let c = and-both (leb low a) (leb a high) (k .1) in (leb-true low a (c .0), leb-true a high (c .1))))
+    reworded (λ xs a k. (k .0, let c = and-true-iff (leb low a) (leb a high) .0 (k .1) in (leb-true low a (c .0), leb-true a high (c .1))))
     (λ xs a k. (k .0, rw (le-leb low a (k .1 .0), le-leb a high (k .1 .1)))) (tested (λ b. leb low b && leb b high) number)
 
 pub any-exactly : Exactly anyByte (One (λ b. Unit {0}))

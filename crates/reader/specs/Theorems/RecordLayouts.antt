@@ -10,12 +10,13 @@ use borrow.Author.Tests.{lt-ltb, ltb-true}
 use lib.Dec.{ltb}
 use lib.ListN.{length}
 use lib.Pow.{pow-pos, pow-mono}
+use Rattle.semantics.specs.Regions.Compare.{and-true-iff}
 use Rattle.reader.specs.Parser.{Parser}
 use Rattle.reader.specs.Fields.{ModeFields, MoveFields}
 use Rattle.reader.specs.Format.{within, bitMap, amount, conditions, ifStands, stands, present, modeRecord, moveRecord}
 use Rattle.reader.specs.Layout.{Optional, InRow, TimersThere, Amount, IsCondition, SixConditions, IsReset, ModeLayout, MoveLayout}
 use Rattle.reader.specs.Theorems.Bits.{there-below, below-there}
-use Rattle.reader.specs.Theorems.Exactly.{Exactly, Both, both, One, reworded, guarded, and-both, within-exactly, any-exactly, optional-exactly, order-exactly, Made, made}
+use Rattle.reader.specs.Theorems.Exactly.{Exactly, Both, both, One, reworded, guarded, within-exactly, any-exactly, optional-exactly, order-exactly, Made, made}
 
 -- A bit map is right.
 pub record MapByte (high n b : ℕ) : Type 0 where
@@ -41,7 +42,7 @@ module _ (n : ℕ) (some : 1 ≤ n) (few : n ≤ 3) where
       Both (One (λ b. (0 ≤ b) × (b ≤ high))) (λ b xs a. (xs ≡ []) × (b ≡ a) × (present n (b / 2 % 8) && present n (b / 16 % 8) ≡ true)) xs a →
       One (MapByte high n) xs a
   map-lays high xs a k =
-      let c = and-both (present n (k .value / 2 % 8)) (present n (k .value / 16 % 8)) (k .second .2) in
+      let c = and-true-iff (present n (k .value / 2 % 8)) (present n (k .value / 16 % 8)) .0 (k .second .2) in
       let e : xs ≡ k .value ∷ [] = k .split ∙ ap (λ (l : List ℕ). k .front ++ l) (k .second .0) ∙ append-nil (k .front) ∙ k .first .0 in
       rw (← k .second .1) (
         e,

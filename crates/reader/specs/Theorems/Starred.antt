@@ -18,6 +18,7 @@ use Rattle.semantics.specs.CornerGraph.{cornerGraph}
 use Rattle.semantics.specs.Answer.{Answer, noRoute, route, answer}
 use Rattle.semantics.specs.Paths.Greedy.{completes}
 use Rattle.semantics.specs.Paths.Computed.{distances}
+use Rattle.semantics.specs.Regions.Compare.{and-true-iff}
 use Rattle.semantics.specs.Corners.Number.{sameList-eq}
 use Rattle.semantics.specs.Answers.Computed.{computed, computed-answer}
 use Rattle.reader.specs.Parser.{inOrder}
@@ -25,7 +26,6 @@ use Rattle.reader.specs.Fields.{Fields}
 use Rattle.reader.specs.Format.{within as byteWithin, bitMap, amount, conditions, modeRecord, moveRecord, header, table}
 use Rattle.reader.specs.Meaning.{automaton}
 use Rattle.reader.specs.Read.{Judgement, accepted, rejected, read}
-use Rattle.reader.specs.Theorems.Exactly.{and-both}
 use Rattle.reader.specs.Theorems.Proper.{accepted-proper}
 
 -- A table by its bytes, and its outcome.
@@ -95,7 +95,7 @@ same-answer noRoute noRoute e = refl
 same-answer noRoute (route D js) e = let z : _≡_ {A = ℕ} 0 1 = cc in absurd (omega arith)
 same-answer (route C ks) noRoute e = let z : _≡_ {A = ℕ} 0 1 = cc in absurd (omega arith)
 same-answer (route C ks) (route D js) e =
-    let both = and-both (eqb C D) (sameList ks js) e in
+    let both = and-true-iff (eqb C D) (sameList ks js) .0 e in
     ap₂ route (eqb-true C D (both .0)) (sameList-eq ks js (both .1))
 
 -- The test's soundness.
@@ -110,7 +110,7 @@ passes-at s (accepted f) e t = record {
 all-have : (ss : List Sample) → allPass ss ≡ true → (s : Sample) → List·Memᴰ s ss → HasOutcome s
 all-have [] t s m = absurd (List·Memᴰ·not-nil m)
 all-have (r ∷ ss) t s m =
-    let both = and-both (passes r) (allPass ss) t in
+    let both = and-true-iff (passes r) (allPass ss) .0 t in
     elim (List·Memᴰ·cases-cons m) [ inl e ↦ rw e (passes-at r (read (r .bytes)) refl (both .0)) | inr k ↦ all-have ss (both .1) s k ]
 
 -- Every starred table has its outcome.

@@ -10,6 +10,7 @@ use lib.ListN.{length, getD, take, replicate, length-map}
 use Rattle.semantics.specs.Automaton.{timers}
 use Rattle.semantics.specs.Corner.{cornerCount}
 use Rattle.semantics.specs.Node.{factor, cellCount, cellNumber, cellAt, nodeCount}
+use Rattle.semantics.specs.Nodes.Cells.{cellAt-length}
 use Rattle.reader.specs.Fields.{Fields}
 use Rattle.reader.specs.Meaning.{modeOf, automaton}
 use Rattle.reader.specs.Held.{IsTable, held, fields}
@@ -53,10 +54,6 @@ at-behind : (cs : List ℕ) (k i : ℕ) → cellAt (cs ++ replicate k 0) i ≡ c
 at-behind [] k i = at-zeros k i
 at-behind (c ∷ cs) k i = ap (λ (l : List ℕ). i % factor c ∷ l) (at-behind cs k (i / factor c))
 
-at-length : (cs : List ℕ) (i : ℕ) → length (cellAt cs i) ≡ length cs
-at-length [] i = refl
-at-length (c ∷ cs) i = ap suc (at-length cs (i / factor c))
-
 module _ (n : ℕ) (ceilings : List ℕ) (p : Padded n ceilings) where
   pub count-padded : cellCount ceilings ≡ cellCount (take n ceilings)
   count-padded = ap cellCount p ∙ count-behind (take n ceilings) (mostTimers - length (take n ceilings))
@@ -70,7 +67,7 @@ module _ (n : ℕ) (ceilings : List ℕ) (p : Padded n ceilings) where
   pub at-padded : (i : ℕ) → cellAt ceilings i ≡ pad mostTimers (cellAt (take n ceilings) i)
   at-padded i =
       ap (λ (l : List ℕ). cellAt l i) p ∙ at-behind (take n ceilings) (mostTimers - length (take n ceilings)) i
-      ∙ ap (λ (k : ℕ). cellAt (take n ceilings) i ++ replicate (mostTimers - k) 0) (sym (at-length (take n ceilings) i))
+      ∙ ap (λ (k : ℕ). cellAt (take n ceilings) i ++ replicate (mostTimers - k) 0) (sym (cellAt-length (take n ceilings) i))
 
 -- The ceilings of a table.
 getD-all : (D : ℕ → Type 0) (l : List ℕ) → ((c : ℕ) → List·Memᴰ c l → D c) → D 0 → (i : ℕ) → D (getD l i 0)

@@ -48,7 +48,7 @@ highest-below [] m pos h = pos
 highest-below (g ∷ gs) m pos h = omega (arith, h 0, highest-below gs m pos (λ i. h (suc i)))
 
 -- A well-formed region has k + 1 prices.
-highest-prices : (r : PricedRegion) → WellFormed r → suc (highest (r .group)) ≡ length (r .prices)
+pub highest-prices : (r : PricedRegion) → WellFormed r → suc (highest (r .group)) ≡ length (r .prices)
 highest-prices r w = go (length (r .prices)) refl
   where
     go : (n : ℕ) → length (r .prices) ≡ n → suc (highest (r .group)) ≡ length (r .prices)

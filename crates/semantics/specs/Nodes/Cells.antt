@@ -36,12 +36,13 @@ number-cellAt (c ∷ cs) i h =
     ap (λ (n : ℕ). n * factor c + i % factor c) (number-cellAt cs (i / factor c) (quotient-below (cellCount cs) (factor c) h))
     ∙ div-add-mod' i (factor c)
 
+pub cellAt-length : (cs : List ℕ) (i : ℕ) → length (cellAt cs i) ≡ length cs
+cellAt-length [] i = refl
+cellAt-length (c ∷ cs) i = ap suc (cellAt-length cs (i / factor c))
+
 pub cellAt-cell : (cs : List ℕ) (i : ℕ) → IsCell cs (cellAt cs i)
-cellAt-cell cs i = record { sized = sized cs i; below = below cs i }
+cellAt-cell cs i = record { sized = cellAt-length cs i; below = below cs i }
   where
-    sized : (cs : List ℕ) (i : ℕ) → length (cellAt cs i) ≡ length cs
-    sized [] i = refl
-    sized (c ∷ cs) i = ap suc (sized cs (i / factor c))
 
     below : (cs : List ℕ) (i t : ℕ) → t < length cs → getD (cellAt cs i) t 0 < factor (getD cs t 0)
     below [] i t h = absurd (not-suc-le-zero h)

@@ -1,0 +1,4 @@
+-- The laws that the functions' proofs cite.
+pub mod Steps
+pub mod Accepted
+pub mod Corner

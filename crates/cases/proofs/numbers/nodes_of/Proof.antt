@@ -1,0 +1,60 @@
+-- `cases::numbers::nodes_of` meets its contract.
+-- Assumes nothing.
+use native.Mathlib.Omega.{arith}
+use borrow.Author.Needs.{needs}
+use Rattle.cases.proofs.Accepted.{accepted-table}
+use Rattle.cases.proofs.numbers.nodes_of.Statement.{statement}
+use Rattle.cases.proofs.numbers.nodes_of.Tie as tie
+
+text-requires : tie.Need-text-requires
+text-requires c κs = search needs
+
+read-requires : tie.Need-read-requires
+read-requires c κs = search needs
+
+enum-known-verdict : tie.Need-enum-known-verdict
+enum-known-verdict c = search needs
+
+slice-aggregate-field : tie.Need-slice-aggregate-field
+slice-aggregate-field c = search needs
+
+cast-field : tie.Need-cast-field
+cast-field c = search needs
+
+field-requires : tie.Need-field-requires
+field-requires c κs = search needs
+
+enum-told : tie.Need-enum-told
+enum-told c = search needs
+
+node-count-requires : tie.Need-node-count-requires
+node-count-requires c κs =
+    let reading = c .before .before .before in
+    let known = reading .before .before in
+    accepted-table (known .before .before .args .bytes .now) (reading .read .result) (λ i. omega (arith, known .shared-slice-known2 .given i))
+    (reading .read .ensures) (c .before .enum-told .given .1)
+
+count-requires : tie.Need-count-requires
+count-requires c κs = search needs
+
+end-line-requires : tie.Need-end-line-requires
+end-line-requires c κs = search needs
+
+returns : tie.Need-returns
+returns c = search needs
+
+pub nodes-of-spec : {M : Type 1} → statement M
+nodes-of-spec =
+    tie.close
+    (tie.spec
+    text-requires
+    read-requires
+    enum-known-verdict
+    slice-aggregate-field
+    cast-field
+    field-requires
+    enum-told
+    node-count-requires
+    count-requires
+    end-line-requires
+    returns)

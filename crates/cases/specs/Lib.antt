@@ -1,0 +1,2 @@
+-- What a step of a script keeps.
+pub mod Step

@@ -1,0 +1,90 @@
+// How many nodes tables have, and the corners of a cell by their numbers.
+ghost use Prim.Native.Nat.{_≤_};
+ghost use Rattle.regions.specs.Held.{mostTimers};
+use crate::print;
+use reader::Verdict;
+use regions::Region;
+use regions::nodes::Nodes;
+
+pub fn run() {
+    tables();
+    corners(1);
+    corners(2);
+    corners(3);
+}
+
+// E of the table, if the bytes are accepted as one.
+fn nodes_of(name: &[u8], bytes: &[u8]) {
+    print::text(name);
+    let r = reader::read(bytes);
+    let verdict = r.verdict;
+    match verdict {
+        Verdict::Refused(n) => {
+            print::field(b": refused ", n as usize);
+        }
+        Verdict::Accepted => {
+            let table = r.table;
+            count(regions::nodes::node_count(table));
+        }
+    }
+    print::end_line();
+}
+
+// E, or that it is above 65,536.
+fn count(nodes: Nodes) {
+    match nodes {
+        Nodes::Count(n) => {
+            print::field(b": nodes ", n);
+        }
+        Nodes::TooMany => {
+            print::text(b": too many nodes");
+        }
+    }
+}
+
+fn tables() {
+    nodes_of(
+        b"T",
+        b"\x03\x01\x02\x02\x02\x01\x03\x01\x01\x00\x01\x00\x01\x05\x03\x01\x02\x01\x51",
+    );
+    nodes_of(
+        b"16 modes, ceilings 2, 2, 5",
+        b"\x10\x03\x00\x00\x02\x02\x05\x00\x00\x00\x00\x00\x00\x00\x00\x00\x00\x00\x00\x00\x00\x00\x00",
+    );
+    nodes_of(
+        b"16 modes, ceilings 6, 3, 1",
+        b"\x10\x03\x00\x00\x06\x03\x01\x00\x00\x00\x00\x00\x00\x00\x00\x00\x00\x00\x00\x00\x00\x00\x00",
+    );
+    nodes_of(b"no bytes", b"");
+}
+
+// The number of corners of a cell, and how many of them have the number by which they were found.
+fn corners(timers: usize)
+    requires { ⌜ (1 ≤ timers) × (timers ≤ mostTimers) ⌝ }
+{
+    print::field(b"timers ", timers);
+    print::field(b": corners ", Region::corners(timers));
+    print::field(b", found again ", found_again(timers));
+    print::end_line();
+}
+
+fn found_again(timers: usize) -> usize
+    requires { ⌜ (1 ≤ timers) × (timers ≤ mostTimers) ⌝ }
+{
+    let mut found: usize = 0;
+    for number in 0..Region::corners(timers) {
+        let at = Region::corner_at(timers, number);
+        let group = at.group;
+        let region = Region {
+            timers: timers as u8,
+            top: at.top,
+            whole: [0; Region::MOST_TIMERS],
+            group,
+            prices: [0; Region::MOST_CORNERS],
+        };
+        if region.corner(at.index) == number {
+            found += 1;
+        }
+    }
+    found
+}

@@ -42,6 +42,8 @@ fn count(nodes: Nodes) {
     }
 }
 
+// E of T is 27, which counts corners: its regions number 18. "16 modes, ceilings 2, 2, 5 give E = 64,800, accepted by 8; ceilings 6, 3, 1
+// give 67,200."
 fn tables() {
     nodes_of(
         b"T",
@@ -58,16 +60,15 @@ fn tables() {
     nodes_of(b"no bytes", b"");
 }
 
-// The number of corners of a cell, and how many of them have the number by which they were found.
 fn corners(timers: usize)
     requires { ⌜ (1 ≤ timers) × (timers ≤ mostTimers) ⌝ }
 {
     print::field(b"timers ", timers);
-    print::field(b": corners ", Region::corners(timers));
-    print::field(b", found again ", found_again(timers));
+    print::field(b": corners found again ", found_again(timers));
     print::end_line();
 }
 
+// How many corners of a cell have the number by which they were found.
 fn found_again(timers: usize) -> usize
     requires { ⌜ (1 ≤ timers) × (timers ≤ mostTimers) ⌝ }
 {

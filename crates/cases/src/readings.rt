@@ -4,10 +4,13 @@ use reader::Verdict;
 
 pub fn run() {
     refusals();
+    later_refusals();
     tables();
     changed_tables();
     counts();
+    ceilings();
     maps();
+    records();
     first_faults();
 }
 
@@ -30,12 +33,16 @@ fn reading(name: &[u8], bytes: &[u8]) {
     print::end_line();
 }
 
-// "Refusals in their order", 1 to 7.
+// "Refusals in their order", 1 to 4.
 fn refusals() {
     reading(b"refusal 1, no bytes", b"");
     reading(b"refusal 2", b"\x00");
     reading(b"refusal 3", b"\x01\x01\x00\x00\x01\x80");
     reading(b"refusal 4", b"\x01\x01\x00\x00\x01\x02\x00");
+}
+
+// The same, 5 to 7.
+fn later_refusals() {
     reading(b"refusal 5", b"\x01\x01\x01\x00\x01\x00\x00\x01");
     reading(
         b"refusal 6, T then 00",
@@ -88,17 +95,21 @@ fn changed_tables() {
     );
 }
 
-// Counts, the goal and ceilings just outside their ranges.
+// Counts and the goal just outside their ranges.
 fn counts() {
     reading(b"modes 17", b"\x11");
     reading(b"timers 4", b"\x01\x04");
     reading(b"moves 65", b"\x01\x01\x41");
     reading(b"goal not below m", b"\x01\x01\x00\x01");
+}
+
+// Ceilings just outside their range.
+fn ceilings() {
     reading(b"ceiling 0", b"\x01\x01\x00\x00\x00");
     reading(b"ceiling 16", b"\x01\x01\x00\x00\x10");
 }
 
-// Bit maps, resets, codes and modes just outside their ranges.
+// Bits of maps and resets that name no timer.
 fn maps() {
     reading(b"map bit 2 of one timer", b"\x01\x01\x00\x00\x01\x04");
     reading(b"map bit 6 of two timers", b"\x01\x02\x00\x00\x01\x01\x40");
@@ -110,6 +121,10 @@ fn maps() {
         b"reset bit 3 of three timers",
         b"\x01\x03\x01\x00\x01\x01\x01\x00\x80\x00\x00\x08",
     );
+}
+
+// A code and a mode just outside their ranges.
+fn records() {
     reading(b"code 6", b"\x01\x01\x00\x00\x01\x02\x60");
     reading(b"to not below m", b"\x01\x01\x01\x00\x01\x00\x00\x00\x01");
 }

@@ -1,6 +1,6 @@
 // Scripts of operations on a region. A script is a list of pairs of bytes, an operation and its amount: d RATE delay, l RATE linger,
-// r TIMER reset, a RESETS reset of several, c PRICE charge. Three more are tests: x, y or z CONDITION of a condition byte on timer 0, 1
-// or 2, and w CEILING of one ceiling for every timer.
+// r TIMER reset, a RESETS reset of several, c PRICE charge. The others are tests: x, y or z CONDITION of a condition byte on timer 0, 1 or
+// 2, and w CEILING of one ceiling for every timer.
 ghost use Prim.Native.Nat.{_≤_, _<_};
 ghost use mathlib.Core.Path.{_≡_};
 ghost use Rattle.regions.specs.Held.{mostTimers, view, Valid, PriceRoom};
@@ -39,7 +39,11 @@ fn step(region: Region, operation: u8, amount: u8) -> Region
     match operation {
         b'd' => shown(b"  delay ", amount, delayed(region, amount as u32)),
         b'l' => shown(b"  linger ", amount, region.linger(amount as u32)),
-        b'r' => shown(b"  reset ", amount, region.reset((amount % 3) as usize)),
+        b'r' => shown(
+            b"  reset ",
+            amount,
+            region.reset(amount as usize % Region::MOST_TIMERS),
+        ),
         b'a' => shown(b"  resets ", amount, region.reset_all(amount)),
         b'c' => shown(b"  charge ", amount, region.charge(amount as u32)),
         b'x' => condition(region, 0, amount),

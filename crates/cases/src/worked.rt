@@ -6,7 +6,9 @@ pub fn run() {
     definitions();
     three_dimensions();
     figure_7();
+    figure_7_goal();
     wrong_turns();
+    linger();
 }
 
 // Start regions; the five codes where the timer is at a whole minute and where it is between two.
@@ -41,22 +43,17 @@ fn definitions() {
     );
 }
 
-// A region with four corners; resets of several timers, in both orders.
+// Regions with four corners; resets of several timers, in both orders.
 fn three_dimensions() {
     scripts::run(
         b"four corners, timers 0 and 2 reset, then all",
         3,
-        b"d\x01r\x00d\x02r\x01d\x04l\x03c\x0aa\x05d\x01a\x07",
+        b"d\x01r\x00d\x02r\x01d\x04l\x03c\x0ad\x01d\x01d\x01d\x01a\x05d\x01a\x07",
     );
     scripts::run(
         b"four corners, timers 2 and 0 reset",
         3,
-        b"d\x01r\x00d\x02r\x01d\x04l\x03c\x0ar\x02r\x00",
-    );
-    scripts::run(
-        b"four corners, delay",
-        3,
-        b"d\x01r\x00d\x02r\x01d\x04l\x03c\x0ad\x01d\x01d\x01",
+        b"d\x01r\x00d\x02r\x01d\x04l\x03c\x0ad\x01d\x01d\x01d\x01r\x02r\x00",
     );
 }
 
@@ -72,6 +69,10 @@ fn figure_7() {
         3,
         b"d\x01d\x01d\x01r\x00d\x01a\x06d\x01d\x01d\x01d\x01",
     );
+}
+
+// The same as far as E, whose guard is z at least 3; that of D is x at least 2 and y at most 1.
+fn figure_7_goal() {
     scripts::run(
         b"figure 7 (vi), C at 1, D at 2, E at 4",
         3,
@@ -89,18 +90,24 @@ fn figure_7() {
     );
 }
 
-// Document 01's wrong turns.
+// Document 01's wrong turns: "Testing a window at corners", "Dropping the top price when time passes a whole minute", "Keeping the price before
+// a reset rather than the smaller of two" (definition 6, above, has both ways).
 fn wrong_turns() {
     scripts::run(
         b"a window met by all points, not by all corners: T, 7 and not 8",
         1,
-        b"c\x05d\x01d\x01x\x51d\x01x\x51c\x01w\x02",
+        b"c\x05d\x01d\x01x\x51d\x01x\x51x\x32x\x42c\x01w\x02",
     );
+    scripts::run(b"c0 is dropped, not the top price", 1, b"d\x02d\x02");
     scripts::run(
-        b"c0 is dropped, not the top price",
+        b"the smaller of two prices after a reset: the ninth table, 0",
         1,
-        b"d\x02d\x02",
+        b"d\x01x\x50a\x01",
     );
+}
+
+// "Forgetting linger: the eighth table becomes 9."
+fn linger() {
     scripts::run(
         b"linger: the eighth table, 7",
         1,
@@ -110,10 +117,5 @@ fn wrong_turns() {
         b"linger forgotten: the eighth table, 9",
         1,
         b"d\x03x\x50c\x05d\x01x\x41c\x01",
-    );
-    scripts::run(
-        b"the smaller of two prices after a reset: the ninth table, 0",
-        1,
-        b"d\x01x\x50a\x01",
     );
 }

@@ -4,7 +4,6 @@ use Prim.Native.Nat.{ℕ, suc, _-_, _≤_}
 use mathlib.Core.Logic.{⊎-elim}
 use mathlib.Core.Path.{ap, _∙_}
 use native.Mathlib.Omega.{arith}
-use borrow.Author.Needs.{needs}
 use lib.ListN.{length, replicate, length-replicate}
 use Rattle.regions.specs.declared.CornerAt.{CornerAt}
 use Rattle.regions.specs.Held.{mostTimers, packCorner}
@@ -21,10 +20,10 @@ abbrev μ-loop : tie.MeasureT-loop
 μ-loop timers found₀ number₀ number-end found number = number-end - number
 
 corners-requires : tie.Need-corners-requires Inv-loop μ-loop
-corners-requires c κs = search needs
+corners-requires c κs = c .pre .1
 
 loop-holds : tie.Need-loop-holds Inv-loop μ-loop
-loop-holds c = search needs
+loop-holds c = omega arith
 
 corner-at-requires : tie.Need-corner-at-requires Inv-loop μ-loop
 corner-at-requires c κs = omega arith
@@ -64,7 +63,7 @@ loop-again : tie.Need-loop-again Inv-loop μ-loop
 loop-again c = ⊎-elim (λ w. omega arith) (λ w. omega arith) (c .if1 .came)
 
 returns : tie.Need-returns Inv-loop μ-loop
-returns c = search needs
+returns c = tt
 
 pub found-again-spec : {M : Type 1} → statement M
 found-again-spec =

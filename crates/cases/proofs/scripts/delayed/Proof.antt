@@ -2,7 +2,6 @@
 -- Assumes nothing.
 use mathlib.Core.Path.{refl, sym, _∙_}
 use lib.Dec.{lit<}
-use borrow.Author.Needs.{needs}
 use Rattle.regions.specs.Held.{mostTimers, view}
 use Rattle.regions.specs.Laws.Chain.{delay-gives}
 use Rattle.regions.specs.Laws.Room.{delay-price-room, within-whole-room}
@@ -11,16 +10,18 @@ use Rattle.cases.proofs.scripts.delayed.Statement.{statement}
 use Rattle.cases.proofs.scripts.delayed.Tie as tie
 
 within-requires : tie.Need-within-requires
-within-requires c κs = search needs
+within-requires c κs = c .pre .0
 
 delay-requires : tie.Need-delay-requires
 delay-requires c κs =
     let start = c .before .before in
     let s = start .args .region in
-    let v = start .pre .0 in
-    (v, start .pre .1,
-    within-whole-room (view s) (v .wellFormed) _ (ceilings-many s v 15) (ceilings-below 255 15 (lit< tt) (s .timers) mostTimers)
-    (sym (c .before .within .ensures) ∙ c .if1 .taken))
+    let v = start .pre .0 in (
+      v,
+      start .pre .1,
+      within-whole-room (view s) (v .wellFormed) _ (ceilings-many s v 15) (ceilings-below 255 15 (lit< tt) (s .timers) mostTimers)
+          (sym (c .before .within .ensures) ∙ c .if1 .taken),
+    )
 
 returns : tie.Need-returns
 returns c =

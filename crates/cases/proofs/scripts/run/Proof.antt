@@ -1,10 +1,9 @@
 -- `cases::scripts::run` meets its contract. The prices have room for the steps that are left.
 -- Assumes nothing.
-use Prim.Native.Nat.{ℕ, _+_, _-_, _*_, _≤_, _<_}
-use mathlib.Core.Path.{subst, sym}
+use Prim.Native.Nat.{_+_, _-_, _*_, _≤_}
+use mathlib.Core.Path.{refl, subst, sym}
 use native.Mathlib.Omega.{arith}
 use lib.Dec.{lit<}
-use borrow.Author.Needs.{needs}
 use Rattle.regions.specs.Held.{view, Valid, PriceRoom}
 use Rattle.regions.specs.Laws.Chain.{start-gives}
 use Rattle.regions.specs.Laws.Room.{start-price-room, less-room}
@@ -18,19 +17,19 @@ abbrev μ-loop : tie.MeasureT-loop
 μ-loop name timers script region₀ i₀ region i = 32 - i
 
 text-requires : tie.Need-text-requires Inv-loop μ-loop
-text-requires c κs = search needs
+text-requires c κs = tt
 
 end-line-requires : tie.Need-end-line-requires Inv-loop μ-loop
-end-line-requires c κs = search needs
+end-line-requires c κs = tt
 
 start-requires : tie.Need-start-requires Inv-loop μ-loop
-start-requires c κs = search needs
+start-requires c κs = omega arith
 
 slice-aggregate-show : tie.Need-slice-aggregate-show Inv-loop μ-loop
-slice-aggregate-show c = search needs
+slice-aggregate-show c = refl
 
 show-requires : tie.Need-show-requires Inv-loop μ-loop
-show-requires c κs = search needs
+show-requires c κs = tt
 
 loop-holds : tie.Need-loop-holds Inv-loop μ-loop
 loop-holds c =
@@ -46,7 +45,7 @@ add-if1 : tie.Need-add-if1 Inv-loop μ-loop
 add-if1 c = omega arith
 
 returns : tie.Need-returns Inv-loop μ-loop
-returns c = search needs
+returns c = tt
 
 shared-slice-read-step : tie.Need-shared-slice-read-step Inv-loop μ-loop
 shared-slice-read-step c = omega arith
@@ -73,13 +72,15 @@ loop-again : tie.Need-loop-again Inv-loop μ-loop
 loop-again c =
     let turn = c .before .before .before .before .before .loop in
     let i = turn .i in
-    let left = 255 * (32 - (i + 1)) in
-    (omega arith, c .step .ensures .valid,
-    c .step .ensures .room left
-    (less-room (view (turn .region)) (_ + left) (255 * (32 - i)) (omega (arith, c .before .shared-slice-known4 .given (2 * i + 1))) (turn .inv .2)))
+    let left = 255 * (32 - (i + 1)) in (
+      omega arith,
+      c .step .ensures .valid,
+      c .step .ensures .room left
+          (less-room (view (turn .region)) (_ + left) (255 * (32 - i)) (omega (arith, c .before .shared-slice-known4 .given (2 * i + 1))) (turn .inv .2)),
+    )
 
 returns-2 : tie.Need-returns-2 Inv-loop μ-loop
-returns-2 c = search needs
+returns-2 c = tt
 
 pub run-spec : {M : Type 1} → statement M
 run-spec =

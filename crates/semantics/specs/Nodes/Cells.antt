@@ -43,7 +43,6 @@ cellAt-length (c ∷ cs) i = ap suc (cellAt-length cs (i / factor c))
 pub cellAt-cell : (cs : List ℕ) (i : ℕ) → IsCell cs (cellAt cs i)
 cellAt-cell cs i = record { sized = cellAt-length cs i; below = below cs i }
   where
-
     below : (cs : List ℕ) (i t : ℕ) → t < length cs → getD (cellAt cs i) t 0 < factor (getD cs t 0)
     below [] i t h = absurd (not-suc-le-zero h)
     below (c ∷ cs) i zero h = mod-lt i {m = factor c} (omega arith)

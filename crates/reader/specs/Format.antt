@@ -1,4 +1,4 @@
--- The reading of a table: document 01, "Bytes of a table", with refusals 1 to 7 of "Refusals in their order".
+-- The reading of a table: document 01, "Bytes of a table", with refusals 1 to 5 of "Refusals in their order".
 -- Assumes nothing.
 use Prim.Native.Nat.{ℕ, _+_, _*_, _-_, _/_, _%_, _^_}
 use mathlib.Core.Bool.{Bool, true, false, cond, _&&_}

@@ -4,6 +4,7 @@ pub mod Exactly
 pub mod Bits
 pub mod RecordLayouts
 pub mod Accepts
+pub mod Refusals
 pub mod Rows
 pub mod Limits
 pub mod Proper

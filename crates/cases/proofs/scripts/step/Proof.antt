@@ -1,7 +1,8 @@
 -- `cases::scripts::step` meets its contract.
 -- Assumes nothing.
 use mathlib.Core.Path.{_≡_, refl}
-use borrow.Author.Needs.{needs}
+use native.Mathlib.Nat.{mod-lt}
+use lib.Dec.{lit<}
 use Rattle.regions.specs.declared.Region.{Region}
 use Rattle.regions.specs.Held.{view}
 use Rattle.regions.specs.Laws.Chain.{linger-gives, charge-gives, reset-gives, resetAll-gives}
@@ -37,7 +38,7 @@ slice-aggregate-shown-3 : tie.Need-slice-aggregate-shown-3
 slice-aggregate-shown-3 c = refl
 
 reset-requires : tie.Need-reset-requires
-reset-requires c κs = search needs
+reset-requires c κs = (c .before .before .pre .0, mod-lt _ (lit< tt))
 
 shown-requires-3 : tie.Need-shown-requires-3
 shown-requires-3 c κs = tt
@@ -61,13 +62,13 @@ shown-requires-5 : tie.Need-shown-requires-5
 shown-requires-5 c κs = tt
 
 condition-requires : tie.Need-condition-requires
-condition-requires c κs = search needs
+condition-requires c κs = (c .before .pre .0, lit< tt)
 
 condition-requires-2 : tie.Need-condition-requires-2
-condition-requires-2 c κs = search needs
+condition-requires-2 c κs = (c .before .pre .0, lit< tt)
 
 condition-requires-3 : tie.Need-condition-requires-3
-condition-requires-3 c κs = search needs
+condition-requires-3 c κs = (c .before .pre .0, lit< tt)
 
 ceilings-requires : tie.Need-ceilings-requires
 ceilings-requires c κs = c .before .pre .0

@@ -1,4 +1,2 @@
 -- The laws that the functions' proofs cite.
 pub mod Steps
-pub mod Accepted
-pub mod Corner

@@ -5,6 +5,7 @@ use Prim.Native.Nat.{ℕ, zero, suc, _+_, _<_}
 use native.Mathlib.Omega.{arith}
 use lib.ListN.{length, getD, take, replicate}
 use lib.Seq.{length-take-le}
+use Rattle.semantics.specs.Region.{PricedRegion}
 use Rattle.regions.specs.declared.Region.{Region}
 use Rattle.regions.specs.Held.{mostTimers, view, Valid, PriceRoom}
 use Rattle.regions.specs.Laws.Fields.{holds, timers-is}
@@ -18,11 +19,11 @@ more-room s amount more = less-room (view s) more (amount + more) (omega arith)
 
 module _ (amount : ℕ) (s t : Region) where
   -- The struct t holds the region r, whose prices are at most those of s and the amount.
-  pub follows : {n : ℕ} {r : _} → Gives n t r → ((more : ℕ) → PriceRoom (amount + more) (view s) → PriceRoom more r) → Follows amount s t
+  pub follows : {n : ℕ} {r : PricedRegion} → Gives n t r → ((more : ℕ) → PriceRoom (amount + more) (view s) → PriceRoom more r) → Follows amount s t
   follows g room = record { valid = g .valid; room = λ more h. subst (PriceRoom more) (sym (g .seen)) (room more h) }
 
   -- No price rises.
-  pub follows-free : {n : ℕ} {r : _} → Gives n t r → ((more : ℕ) → PriceRoom more (view s) → PriceRoom more r) → Follows amount s t
+  pub follows-free : {n : ℕ} {r : PricedRegion} → Gives n t r → ((more : ℕ) → PriceRoom more (view s) → PriceRoom more r) → Follows amount s t
   follows-free g room = follows g (λ more h. room more (more-room s amount more h))
 
   -- Nothing changes.

@@ -15,7 +15,8 @@ use Rattle.regions.specs.declared.Region.{Region}
 use Rattle.regions.specs.Arrays.{mapTo}
 use Rattle.regions.specs.Held.{pack}
 use Rattle.regions.specs.Laws.Fields.{packed, Holds, timers-is, group-length, top-is, whole-is, group-is, prices-is, prices-many, price-at, group-at, top-few, top-fewer, top-above}
-use Rattle.regions.proofs.Pads.{map-pad, mapTo-pad, clear-pad, set-pad, snoc-pad, risen-pad, tail-pad, merge-pad, zeros-pad}
+use Rattle.regions.specs.Laws.Pads.{zeros-pad}
+use Rattle.regions.proofs.Pads.{map-pad, mapTo-pad, clear-pad, set-pad, snoc-pad, risen-pad, tail-pad, merge-pad}
 
 -- A struct by its fields.
 abbrev struct : ℕ → ℕ → List ℕ → List ℕ → List ℕ → Region

@@ -102,11 +102,3 @@ merge-pad m i cs h b =
     ap (λ (l : List ℕ). l ++ 0 ∷ [])
     (merge-append i cs (replicate (m - length cs) 0) h ∙ ap (λ (n : ℕ). merge i cs ++ replicate (m - n) 0) e)
     ∙ zero-more m (merge i cs) (omega arith)
-
--- An array of zeros.
-pub zeros-pad : (m n : ℕ) → n ≤ m → replicate m 0 ≡ pad m (replicate n 0)
-zeros-pad m n h =
-    let j : m ≡ n + (m - n) = omega arith in
-    ap (λ (k : ℕ). replicate k 0) j
-    ∙ sym (replicate-append-replicate n (m - n) 0)
-    ∙ ap (λ (k : ℕ). replicate n 0 ++ replicate (m - k) 0) (sym (length-replicate n 0))

@@ -2,14 +2,16 @@
 -- Assumes nothing.
 use Prim.Native.Nat.{ℕ, zero, suc, _≤_, _<_}
 use native.Mathlib.Omega.{arith}
-use mathlib.Core.Path.{_≡_, refl, sym, ap, ap₂, _∙_}
+use mathlib.Core.Path.{_≡_, refl, sym, ap, ap₂, subst, _∙_}
 use mathlib.Core.List.{List, [], _∷_, _++_, map, append-assoc, List·Memᴰ}
 use lib.ListN.{length, getD, take, drop, length-map}
 use lib.Seq.{take-at, drop-at, take-append-seam}
+use Rattle.reader.specs.declared.Reading.{Reading}
+use Rattle.reader.specs.declared.Verdict.the-variants.{Accepted}
 use Rattle.reader.specs.Fields.{ModeFields, MoveFields, Fields}
 use Rattle.reader.specs.Layout.{InRow, ModeLayout, MoveLayout, Layout}
-use Rattle.reader.specs.Read.{accepted, read}
-use Rattle.reader.specs.Held.{pad, flat, held, fields, modesFrom, movesFrom, InRange, IsTable}
+use Rattle.reader.specs.Read.{Judgement, accepted, rejected, read}
+use Rattle.reader.specs.Held.{pad, flat, held, reading, fields, modesFrom, movesFrom, InRange, IsTable}
 use Rattle.reader.specs.Theorems.Accepts.{accepts}
 use Rattle.reader.specs.Theorems.Limits.{accepted-bounded}
 use Rattle.reader.specs.Theorems.Rows.{row-all}
@@ -74,3 +76,17 @@ accepted-range bytes f h e =
       six-guards = row-all (λ e. length (e .conditions) ≡ 6) (λ i xs e r. r .conditions .six) 0 (k .move-bytes) (f .moves) (k .moves);
       proper = layout-proper bytes f k (a .1);
     }
+
+-- The struct of an accepted reading is a table.
+pub accepted-table :
+    (bytes : List ℕ) (r : Reading) → ((i : ℕ) → getD bytes i 0 < 256) → r ≡ reading (read bytes) → r .verdict ≡ Accepted → IsTable (r .table)
+unfolding reading
+accepted-table bytes r small is met = go (read bytes) refl
+  where
+    go : (j : Judgement) → read bytes ≡ j → IsTable (r .table)
+    go (accepted f) e =
+        subst IsTable (sym (ap (λ (s : Reading). s .table) (is ∙ ap reading e))) (held-table f (accepted-range bytes f small e))
+    go (rejected n) e =
+        let no = sym met ∙ ap (λ (s : Reading). s .verdict) (is ∙ ap reading e) in
+        let z : _≡_ {A = ℕ} 0 1 = cc in
+        absurd (omega arith)

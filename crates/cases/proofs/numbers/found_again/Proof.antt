@@ -9,7 +9,7 @@ use Rattle.regions.specs.declared.CornerAt.{CornerAt}
 use Rattle.regions.specs.Held.{mostTimers, packCorner}
 use Rattle.regions.specs.Laws.Chain.{valid-pack}
 use Rattle.regions.specs.Laws.Corners.{corner-well-formed, corner-inside}
-use Rattle.cases.proofs.Corner.{corner-valid}
+use Rattle.regions.specs.Laws.CornerRegion.{corner-valid}
 use Rattle.cases.proofs.numbers.found_again.Statement.{statement}
 use Rattle.cases.proofs.numbers.found_again.Tie as tie
 

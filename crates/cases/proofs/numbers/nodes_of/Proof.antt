@@ -3,7 +3,7 @@
 use mathlib.Core.Path.{refl}
 use native.Mathlib.Omega.{arith}
 use borrow.Author.Needs.{needs}
-use Rattle.cases.proofs.Accepted.{accepted-table}
+use Rattle.reader.specs.Theorems.Holding.{accepted-table}
 use Rattle.cases.proofs.numbers.nodes_of.Statement.{statement}
 use Rattle.cases.proofs.numbers.nodes_of.Tie as tie
 

@@ -1,25 +1,18 @@
 -- The struct with the groups of a corner, and every whole part and every price 0.
 -- Assumes nothing.
-use Prim.Native.Nat.{ℕ, suc, pred, _+_, _-_, _≤_}
-use mathlib.Core.Path.{_≡_, ap, sym, subst, _∙_}
+use Prim.Native.Nat.{ℕ, suc, pred, _≤_}
+use mathlib.Core.Path.{_≡_, sym, subst}
 use mathlib.Core.List.{List}
 use native.Mathlib.Omega.{arith}
-use lib.ListN.{length, replicate, length-replicate, replicate-append-replicate}
+use lib.ListN.{length, replicate, length-replicate}
 use Rattle.regions.specs.declared.Region.{Region}
 use Rattle.regions.specs.declared.CornerAt.{CornerAt}
 use Rattle.regions.specs.Held.{mostTimers, mostCorners, pad, pack, Valid}
+use Rattle.regions.specs.Laws.Pads.{zeros-pad}
 use Rattle.regions.specs.Laws.Fields.{packed, holds, top-few}
 
 abbrev pub cornerRegion : ℕ → CornerAt → Region
 cornerRegion n k = record { timers = n; top = k .top; whole = replicate mostTimers 0; group = k .group; prices = replicate mostCorners 0 }
-
--- An array of zeros, of which the first n are used.
-zeros-padded : (m n : ℕ) → n ≤ m → replicate m 0 ≡ pad m (replicate n 0)
-zeros-padded m n h =
-    let many = length-replicate {A = ℕ} n 0 in
-    let behind = m - length (replicate {A = ℕ} n 0) in
-    let all : n + behind ≡ m = omega arith in
-    sym (replicate-append-replicate n behind 0 ∙ ap (λ (k : ℕ). replicate k 0) all)
 
 -- It is valid if the corner has the groups of a region.
 pub corner-valid :
@@ -35,5 +28,5 @@ corner-valid n k group e v =
     let top : k .top ≡ pred (length (replicate {A = ℕ} m 0)) = omega arith in
     subst Valid
     (sym (packed (cornerRegion n k) (record { whole = replicate n 0; group = group; prices = replicate m 0 }) (sym many) top
-    (zeros-padded mostTimers n few) e (zeros-padded mostCorners m few-prices)))
+    (zeros-pad mostTimers n few) e (zeros-pad mostCorners m few-prices)))
     v

@@ -27,10 +27,14 @@ abbrev pub conditionsFrom : ℕ → List ℕ → List Condition
 conditionsFrom place [] = []
 conditionsFrom place (byte ∷ bytes) = cond (eqb byte 0) (conditionsFrom (suc place) bytes) (conditionOf (place % 3) byte ∷ conditionsFrom (suc place) bytes)
 
--- "resets, a byte whose bits 0 to 2 name timers".
+-- Those of the timers whose bit stands in the byte.
 abbrev pub named : ℕ → List ℕ → List ℕ
 named byte [] = []
 named byte (timer ∷ timers) = cond (stands byte timer) (timer ∷ named byte timers) (named byte timers)
+
+-- "resets, a byte whose bits 0 to 2 name timers".
+abbrev pub namedTimers : ℕ → List ℕ
+namedTimers byte = named byte (0 ∷ 1 ∷ 2 ∷ [])
 
 abbrev pub modeOf : ModeFields → Mode
 modeOf f = record { rate = f .rate; conditions = conditionsFrom 0 (f .conditions) }
@@ -41,7 +45,7 @@ moveOf f = record {
   target = f .target;
   price = f .price;
   conditions = conditionsFrom 0 (f .conditions);
-  resets = named (f .resets) (0 ∷ 1 ∷ 2 ∷ []);
+  resets = namedTimers (f .resets);
 }
 
 abbrev pub automaton : Fields → Automaton

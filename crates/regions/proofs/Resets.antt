@@ -7,7 +7,7 @@ use Prim.Native.Nat.{ℕ, _/_, _%_, _^_}
 use borrow.Author.Tests.{eq-eqb, ne-eqb}
 use lib.Dec.{eqb}
 use Rattle.semantics.specs.Region.{PricedRegion, resetAll}
-use Rattle.reader.specs.Meaning.{named}
+use Rattle.reader.specs.Meaning.{named, namedTimers}
 use Rattle.regions.specs.declared.Region.{Region}
 use Rattle.regions.specs.Held.{pack, view, Valid}
 use Rattle.regions.specs.Laws.Chain.{resetAll-gives}
@@ -34,7 +34,7 @@ resets-split byte x xs r = go (eqb (byte / 2 ^ x % 2) 1)
 pub resets-is :
     (byte : ℕ) (s a b t : Region) → Valid s → a ≡ pack (resetAll (named byte (0 ∷ [])) (view s))
     → b ≡ pack (resetAll (named byte (1 ∷ [])) (view a)) → t ≡ pack (resetAll (named byte (2 ∷ [])) (view b))
-    → t ≡ pack (resetAll (named byte (0 ∷ 1 ∷ 2 ∷ [])) (view s))
+    → t ≡ pack (resetAll (namedTimers byte) (view s))
 resets-is byte s a b t v ea eb et =
     let first = resetAll-gives s a v (named byte (0 ∷ [])) ea in
     let second = resetAll-gives a b (first .valid) (named byte (1 ∷ [])) eb in

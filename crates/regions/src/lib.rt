@@ -6,7 +6,7 @@ ghost use Prim.Native.Nat.{_<_, _≤_, max};
 ghost use lib.ListN.{take};
 ghost use Rattle.semantics.specs.Region.{noZero, alone, start, leave, arrive, delay, linger, reset, resetAll, charge, meets, within};
 ghost use Rattle.semantics.specs.Corner.{cornerCount, cornerOf, cornerNumber, cornerAt};
-ghost use Rattle.reader.specs.Meaning.{named, conditionOf};
+ghost use Rattle.reader.specs.Meaning.{named, namedTimers, conditionOf};
 ghost use Rattle.regions.specs.Held.{mostTimers, pack, view, Valid, PriceRoom, WholeRoom, packCorner};
 
 mod arrays;
@@ -91,7 +91,7 @@ impl Region {
     // The timers that a reset byte names are reset.
     pub fn reset_all(self, resets: u8) -> Region
         requires { ⌜ Valid self ⌝ }
-        ensures { λ r. ⌜ r ≡ pack (resetAll (named resets (0 ∷ 1 ∷ 2 ∷ [])) (view self)) ⌝ }
+        ensures { λ r. ⌜ r ≡ pack (resetAll (namedTimers resets) (view self)) ⌝ }
     {
         let a = self.reset_if_named(resets, 0);
         let b = a.reset_if_named(resets, 1);

@@ -47,7 +47,7 @@ pub fn cell_count(ceilings: [u8; Region::MOST_TIMERS]) -> usize
     c * b * a
 }
 
-// One digit more of a number in mixed radix.
+// One digit more of a number in mixed radix. Two digits that are bytes, with factors up to 16, give at most 4335.
 fn with_digit(high: usize, factor: usize, digit: u8) -> usize
     requires { ⌜ (high ≤ 4335) × (factor ≤ 16) ⌝ }
     ensures { λ r. ⌜ (r ≡ high * factor + digit) × (r ≤ 16 * high + 255) ⌝ }

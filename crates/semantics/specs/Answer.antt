@@ -49,7 +49,7 @@ abbrev pub behind : ℕ → Answer → Answer
 behind byte noRoute = noRoute
 behind byte (route C ks) = route C (byte ∷ ks)
 
--- "the charge of a chain is its least corner price".
+-- The charge of a chain: demand 2, "the least corner price".
 abbrev pub least : List ℕ → ℕ
 least [] = 0
 least (c ∷ []) = c

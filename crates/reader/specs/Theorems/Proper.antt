@@ -16,7 +16,7 @@ use Rattle.semantics.specs.Automaton.{Mode, Move, Automaton, OnTimers, Proper, 
 use Rattle.reader.specs.Fields.{ModeFields, MoveFields, Fields}
 use Rattle.reader.specs.Format.{stands}
 use Rattle.reader.specs.Layout.{Optional, present, absent, InRow, none, more, TimersThere, IsCondition, IsReset, SixConditions, ModeLayout, MoveLayout, Layout}
-use Rattle.reader.specs.Meaning.{conditionOf, conditionsFrom, named, modeOf, moveOf, automaton}
+use Rattle.reader.specs.Meaning.{conditionOf, conditionsFrom, named, namedTimers, modeOf, moveOf, automaton}
 use Rattle.reader.specs.Read.{accepted, read}
 use Rattle.reader.specs.Theorems.Accepts.{accepts}
 use Rattle.reader.specs.Theorems.Rows.{row-all, map-all}
@@ -80,7 +80,7 @@ one-of-three x m = elim (List·Memᴰ·cases-cons m) [
   | inr m′ ↦ elim (List·Memᴰ·cases-cons m′) [ inl e ↦ omega arith | inr m″ ↦ omega (arith, List·Memᴰ·eq-of-singleton m″) ]
 ]
 
-resets-on : (n b : ℕ) → TimersThere n 0 b → (x : ℕ) → List·Memᴰ x (named b (0 ∷ 1 ∷ 2 ∷ [])) → x < n
+resets-on : (n b : ℕ) → TimersThere n 0 b → (x : ℕ) → List·Memᴰ x (namedTimers b) → x < n
 resets-on n b h = named-on n b (0 ∷ 1 ∷ 2 ∷ []) (λ x m e. h x (one-of-three x m) (ap (stands b) (zero-add x) ∙ e))
 
 -- What the layout of a move record gives, every move has.

@@ -109,7 +109,8 @@ impl Region {
         self
     }
 
-    // Whether all points of the region meet a condition byte on the timer: "its corners need not".
+    // Whether all points of the region meet a condition byte on the timer: "its corners need not". The byte 0 of a `Table`, which stands for no
+    // condition, is for the caller to pass over.
     pub fn meets(self, timer: usize, condition: u8) -> bool
         requires { ⌜ Valid self × (timer < mostTimers) ⌝ }
         ensures { λ r. ⌜ r ≡ meets (conditionOf timer condition) (view self) ⌝ }

@@ -20,8 +20,10 @@ pub mod Certificate
 pub mod Words
 pub mod Sum
 pub mod Sound
-pub mod Pass
+pub mod Update
+pub mod Sweep
 pub mod Seed
+pub mod Settle
 -- The distance as a function.
 pub mod UpTo
 pub mod Computed

@@ -1,0 +1,48 @@
+// The words of a search: the charge of node v stands at 2v, and its steps at 2v + 1.
+ghost use mathlib.Core.Path.{_≡_};
+ghost use lib.ListN.{length, replicate};
+ghost use Rattle.search.specs.Edges.{EdgeReady, EdgeRelaxed};
+
+// An unreached node has this in both of its words.
+pub const INFINITY: u32 = 0xFFFF_FFFF;
+
+// Every word becomes x.
+pub fn fill(words: &mut [u32], x: u32)
+    ensures { λ _. ⌜ now (words .exit) ≡ replicate (length (now (words .entry))) x ⌝ }
+{
+    let n = words.len();
+    let mut i = 0;
+    while i < n {
+        words[i] = x;
+        i += 1;
+    }
+}
+
+// Lowers the cost of a node to that by an edge from it, where that is less and takes fewer than E steps. Says whether it did.
+pub fn relax_edge(words: &mut [u32], nodes: usize, from: usize, to: usize, weight: u32) -> bool
+    requires { ⌜ EdgeReady nodes from to weight (now words) ⌝ }
+    ensures { λ r. ⌜ EdgeRelaxed nodes from to weight (now (words .entry)) (now (words .exit)) r ⌝ }
+{
+    let after = words[2 * to];
+    if after == INFINITY {
+        return false;
+    }
+    let steps = words[2 * to + 1] + 1;
+    if nodes <= steps as usize {
+        return false;
+    }
+    let charge = after + weight;
+    let old = words[2 * from];
+    if old < charge {
+        return false;
+    }
+    if old == charge {
+        let old_steps = words[2 * from + 1];
+        if old_steps <= steps {
+            return false;
+        }
+    }
+    words[2 * from] = charge;
+    words[2 * from + 1] = steps;
+    true
+}

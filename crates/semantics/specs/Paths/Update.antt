@@ -1,7 +1,7 @@
 -- What the relaxing of edges does to the words of the search, be it of one edge or of those of many nodes; and what it leaves of edges that
 -- were relaxed before.
 -- Assumes nothing.
-use mathlib.Core.Path.{_≡_, refl, _∙_}
+use mathlib.Core.Path.{_≡_, refl, sym, _∙_}
 use mathlib.Core.Bool.{Bool, true, false, _||_, or-true}
 use mathlib.Core.Logic.{_≢_, _⊎_, inl, inr}
 use mathlib.Core.List.{List, _∷_}
@@ -10,12 +10,16 @@ use native.Mathlib.Decide.{ℕ-discrete, decLt}
 use native.Mathlib.Omega.{arith}
 use lib.ListN.{length, drop}
 use Rattle.semantics.specs.Path.{Edge, Graph, Leaves, Cost, _≺_, HasCost, Relaxed, infinity, chargeAt, stepsAt, table}
-use Rattle.semantics.specs.Paths.Words.{table-reached, table-other, stored, stored-length, stored-rest}
+use Rattle.semantics.specs.Paths.Words.{table-reached, table-other, stored, stored-length, stored-rest, stored-charge, other-charge, other-steps}
 use Rattle.semantics.specs.Paths.Sound.{Sound, Lower, costAt, measure, stored-lower, stored-measure, sound-stored, relaxed-kept}
 
 -- A node is not among those from lo to below hi.
 abbrev pub Outside : ℕ → ℕ → ℕ → Type 0
 Outside lo hi v = (v < lo) ⊎ (hi ≤ v)
+
+-- If node v is unreached, both of its words say so.
+abbrev pub Blank : List ℕ → ℕ → Type 0
+Blank ws v = chargeAt ws v ≡ infinity → stepsAt ws v ≡ infinity
 
 -- The words ws became ws′. They are sound, the words past the table are untouched, no entry is higher, and those of nodes outside lo to hi
 -- are the same. The flag says whether anything was stored: if not, the words are the same; if so, the measure of the search fell.
@@ -25,6 +29,7 @@ pub record Update (g : Graph) (lo hi : ℕ) (ws ws′ : List ℕ) (changed : Boo
   pub kept : length ws′ ≡ length ws
   pub lower : (v : ℕ) → Lower (table ws′ v) (table ws v)
   pub only : (v : ℕ) → Outside lo hi v → table ws′ v ≡ table ws v
+  pub blank : (v : ℕ) → Blank ws v → Blank ws′ v
   pub same : changed ≡ false → ws′ ≡ ws
   pub falls : changed ≡ true → measure (g .nodes) ws′ < measure (g .nodes) ws
 
@@ -36,6 +41,7 @@ update-none lo hi ok = record {
   kept = refl;
   lower = λ v c h. h;
   only = λ v o. refl;
+  blank = λ v b. b;
   same = λ _. refl;
   falls = λ e. let z : _≡_ {A = ℕ} 0 1 = cc in absurd (omega arith);
 }
@@ -52,6 +58,7 @@ update-stored {g} {ws} v e c charged counted small ok h to l end known few less 
   kept = stored-length ws v c;
   lower = stored-lower g ws v c ok h known less;
   only = λ u o. table-other ws v c u (other u o);
+  blank = λ u b. blank u b (ℕ-discrete u v);
   same = λ q. let z : _≡_ {A = ℕ} 0 1 = cc in absurd (omega arith);
   falls = λ _. stored-measure g ws v c ok h known less (omega arith);
 }
@@ -60,6 +67,10 @@ update-stored {g} {ws} v e c charged counted small ok h to l end known few less 
     new =
         let r = ok .attained (e .to) (costAt ws (e .to)) to (table-reached ws (e .to) end) in
         record { path = e ∷ r .path; is-path = (l, r .is-path); charged = omega arith; counted = omega arith }
+
+    blank : (u : ℕ) → Blank ws u → Dec (u ≡ v) → Blank (stored ws v c) u
+    blank u b (yes q) e = absurd (known (sym (stored-charge ws v c (omega (arith, ok .room))) ∙ rw q at e))
+    blank u b (no n) e = other-steps ws v c u n ∙ b (sym (other-charge ws v c u n) ∙ e)
 
     other : (u : ℕ) → Outside v (v + 1) u → u ≢ v
     other u (inl x) q = omega arith
@@ -75,6 +86,7 @@ update-wider {g} {ws} {ws′} {b} {lo} {hi} lo′ hi′ h k u = record {
   kept = u .kept;
   lower = u .lower;
   only = λ v o. u .only v (narrow v o);
+  blank = u .blank;
   same = u .same;
   falls = u .falls;
 }
@@ -93,6 +105,7 @@ update-then {g} {lo} {hi} {ws} {ws′} {ws″} a b {k} flag p q = record {
   kept = q .kept ∙ p .kept;
   lower = λ v c h. q .lower v c (p .lower v c h);
   only = λ v o. q .only v o ∙ p .only v o;
+  blank = λ v b. q .blank v (p .blank v b);
   same = λ e. same a b p q (flag ∙ e);
   falls = λ e. falls a b p q (flag ∙ e);
 }

@@ -1,3 +1,8 @@
 -- What the contracts of the search cite.
+pub mod Outcome
+pub mod Places
+-- And those of its private functions.
 pub mod Edges
 pub mod Regions
+pub mod Settle
+pub mod Seeding

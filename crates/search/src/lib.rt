@@ -1,7 +1,114 @@
-// Layer 3: the search for the least charge into a goal mode.
+// Layer 3: the search for the least charge into a goal mode, and the places of chains that a route is made of.
+ghost use mathlib.Core.Path.{_≡_};
+ghost use lib.ListN.{length};
+ghost use Rattle.reader.specs.Held.{IsTable};
+ghost use Rattle.search.specs.Regions.{automatonOf};
+ghost use Rattle.search.specs.Outcome.{answered, searched, cleared};
+ghost use Rattle.search.specs.Seeding.{SeedRoom, Seeds};
+
 mod conditions;
 mod corners;
 mod moves;
+pub mod places;
+mod settle;
 mod sweep;
 mod waits;
 mod words;
+
+use reader::Table;
+use regions::nodes;
+use regions::nodes::Nodes;
+
+// "8: E above 65,536".
+const TOO_MANY_NODES: u8 = 8;
+
+// "9: fewer than 2E words lent".
+const TOO_FEW_WORDS: u8 = 9;
+
+// The number of nodes whose words a search uses; or, where it uses none, document 01's number.
+pub enum Searched {
+    Nodes(usize),
+    Refused(u8),
+}
+
+fn room(table: Table, lent: usize) -> Searched
+    requires { ⌜ IsTable table ⌝ }
+    ensures { λ r. ⌜ r ≡ answered (automatonOf table) lent ⌝ }
+{
+    let count = nodes::node_count(table);
+    match count {
+        Nodes::TooMany => Searched::Refused(TOO_MANY_NODES),
+        Nodes::Count(n) => {
+            if lent < 2 * n {
+                return Searched::Refused(TOO_FEW_WORDS);
+            }
+            Searched::Nodes(n)
+        }
+    }
+}
+
+// Finds the charge and the number of steps from every corner into the goal mode.
+pub fn search(table: Table, goal: usize, words: &mut [u32]) -> Searched
+    requires { ⌜ IsTable table ⌝ }
+    ensures answer { λ r. ⌜ r ≡ answered (automatonOf table) (length (now (words .entry))) ⌝ }
+    ensures words { λ _. ⌜ now (words .exit) ≡ searched (automatonOf table) goal (now (words .entry)) ⌝ }
+{
+    let answer = room(table, words.len());
+    let Searched::Nodes(n) = answer else {
+        return answer;
+    };
+    let modes = table.modes;
+    seed(words, n, goal, modes);
+    let ceilings = table.ceilings;
+    let rates = table.rates;
+    let invariants = table.invariants;
+    let sources = table.sources;
+    let targets = table.targets;
+    let prices = table.prices;
+    let guards = table.guards;
+    let resets = table.resets;
+    settle::settle(
+        words,
+        n,
+        goal,
+        modes,
+        table.moves,
+        table.timers,
+        ceilings,
+        &rates,
+        &invariants,
+        &sources,
+        &targets,
+        &prices,
+        &guards,
+        &resets,
+    );
+    answer
+}
+
+// Makes the first 2E words 0 again, where a search would have used them.
+pub fn clear(table: Table, words: &mut [u32])
+    requires { ⌜ IsTable table ⌝ }
+    ensures { λ _. ⌜ now (words .exit) ≡ cleared (automatonOf table) (now (words .entry)) ⌝ }
+{
+    let answer = room(table, words.len());
+    if let Searched::Nodes(n) = answer {
+        let end = 2 * n;
+        words::fill(&mut words[..end], 0);
+    }
+}
+
+// The nodes of the goal have cost 0, and no other node is reached.
+fn seed(words: &mut [u32], nodes: usize, goal: usize, modes: usize)
+    requires { ⌜ SeedRoom nodes modes (now words) ⌝ }
+    ensures { λ _. ⌜ Seeds nodes goal modes (now (words .entry)) (now (words .exit)) ⌝ }
+{
+    let end = 2 * nodes;
+    words::fill(&mut words[..end], words::INFINITY);
+    if goal < modes {
+        let share = 2 * (nodes / modes);
+        let first = goal * share;
+        let last = first + share;
+        words::fill(&mut words[first..last], 0);
+    }
+}

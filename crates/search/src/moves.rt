@@ -20,15 +20,11 @@ pub fn relax_moves(
     resets: &[u8],
     invariants: &[u8],
 ) -> bool
-    requires {
-        ⌜ MovesReady nodes from region ceilings (now own) (now targets) (now prices) (now guards) (now resets) (now invariants) (now words) ⌝
-    }
-    ensures {
-        λ r. ⌜
-          MovesRelaxed nodes from region ceilings (now (own .entry)) (now (targets .entry)) (now (prices .entry)) (now (guards .entry))
-          (now (resets .entry)) (now (invariants .entry)) (now (words .entry)) (now (words .exit)) r
-        ⌝
-    }
+    requires { ⌜ MovesReady nodes from region ceilings (now own) (now targets) (now prices) (now guards) (now resets) (now invariants) (now words) ⌝ }
+    ensures { λ r. ⌜
+        MovesRelaxed nodes from region ceilings (now (own .entry)) (now (targets .entry)) (now (prices .entry)) (now (guards .entry))
+        (now (resets .entry)) (now (invariants .entry)) (now (words .entry)) (now (words .exit)) r
+        ⌝ }
 {
     let mut changed = false;
     let top = region.top as usize;

@@ -6,7 +6,12 @@ use regions::Region;
 use regions::nodes;
 
 // The indices of the corners of a region with the corners 0 to top, as its prices.
-const INDICES: [[u32; Region::MOST_CORNERS]; Region::MOST_CORNERS] = [[0, 0, 0, 0], [0, 1, 0, 0], [0, 1, 2, 0], [0, 1, 2, 3]];
+const INDICES: [[u32; Region::MOST_CORNERS]; Region::MOST_CORNERS] = [
+    [0, 0, 0, 0],
+    [0, 1, 0, 0],
+    [0, 1, 2, 0],
+    [0, 1, 2, 3],
+];
 
 // All edges from the corners of a region.
 fn sweep_region(
@@ -24,20 +29,28 @@ fn sweep_region(
     resets: &[u8],
     invariants: &[u8],
 ) -> bool
-    requires {
-        ⌜
-          RegionReady nodes from mode region ceilings rate (now own) (now targets) (now prices) (now guards) (now resets) (now invariants)
-          (now words)
-        ⌝
-    }
-    ensures {
-        λ r. ⌜
-          RegionSwept nodes from mode region ceilings rate (now (own .entry)) (now (targets .entry)) (now (prices .entry))
-          (now (guards .entry)) (now (resets .entry)) (now (invariants .entry)) (now (words .entry)) (now (words .exit)) r
-        ⌝
-    }
+    requires { ⌜
+        RegionReady nodes from mode region ceilings rate (now own) (now targets) (now prices) (now guards) (now resets) (now invariants)
+        (now words)
+        ⌝ }
+    ensures { λ r. ⌜
+        RegionSwept nodes from mode region ceilings rate (now (own .entry)) (now (targets .entry)) (now (prices .entry))
+        (now (guards .entry)) (now (resets .entry)) (now (invariants .entry)) (now (words .entry)) (now (words .exit)) r
+        ⌝ }
 {
-    let moved = moves::relax_moves(words, nodes, from, region, ceilings, own, targets, prices, guards, resets, invariants);
+    let moved = moves::relax_moves(
+        words,
+        nodes,
+        from,
+        region,
+        ceilings,
+        own,
+        targets,
+        prices,
+        guards,
+        resets,
+        invariants,
+    );
     let waited = waits::relax_waits(words, nodes, from, mode, region, ceilings, rate, invariants);
     if moved {
         return true;
@@ -62,18 +75,14 @@ fn sweep_cell(
     resets: &[u8],
     invariants: &[u8],
 ) -> bool
-    requires {
-        ⌜
-          CellReady nodes base mode timers whole ceilings rate (now own) (now targets) (now prices) (now guards) (now resets) (now invariants)
-          (now words)
-        ⌝
-    }
-    ensures {
-        λ r. ⌜
-          CellSwept nodes base mode timers whole ceilings rate (now (own .entry)) (now (targets .entry)) (now (prices .entry))
-          (now (guards .entry)) (now (resets .entry)) (now (invariants .entry)) (now (words .entry)) (now (words .exit)) r
-        ⌝
-    }
+    requires { ⌜
+        CellReady nodes base mode timers whole ceilings rate (now own) (now targets) (now prices) (now guards) (now resets) (now invariants)
+        (now words)
+        ⌝ }
+    ensures { λ r. ⌜
+        CellSwept nodes base mode timers whole ceilings rate (now (own .entry)) (now (targets .entry)) (now (prices .entry))
+        (now (guards .entry)) (now (resets .entry)) (now (invariants .entry)) (now (words .entry)) (now (words .exit)) r
+        ⌝ }
 {
     let mut changed = false;
     let mut number = Region::corners(timers);
@@ -90,7 +99,21 @@ fn sweep_cell(
             prices: indices,
         };
         number = number - 1 - top as usize;
-        if sweep_region(words, nodes, base + number, mode, region, ceilings, rate, own, targets, prices, guards, resets, invariants) {
+        if sweep_region(
+            words,
+            nodes,
+            base + number,
+            mode,
+            region,
+            ceilings,
+            rate,
+            own,
+            targets,
+            prices,
+            guards,
+            resets,
+            invariants,
+        ) {
             changed = true;
         }
     }
@@ -112,15 +135,11 @@ pub fn sweep_mode(
     resets: &[u8],
     invariants: &[u8],
 ) -> bool
-    requires {
-        ⌜ ModeReady nodes mode timers ceilings rate (now own) (now targets) (now prices) (now guards) (now resets) (now invariants) (now words) ⌝
-    }
-    ensures {
-        λ r. ⌜
-          ModeSwept nodes mode timers ceilings rate (now (own .entry)) (now (targets .entry)) (now (prices .entry)) (now (guards .entry))
-          (now (resets .entry)) (now (invariants .entry)) (now (words .entry)) (now (words .exit)) r
-        ⌝
-    }
+    requires { ⌜ ModeReady nodes mode timers ceilings rate (now own) (now targets) (now prices) (now guards) (now resets) (now invariants) (now words) ⌝ }
+    ensures { λ r. ⌜
+        ModeSwept nodes mode timers ceilings rate (now (own .entry)) (now (targets .entry)) (now (prices .entry)) (now (guards .entry))
+        (now (resets .entry)) (now (invariants .entry)) (now (words .entry)) (now (words .exit)) r
+        ⌝ }
 {
     let mut changed = false;
     let cells = nodes::cell_count(ceilings);
@@ -130,7 +149,22 @@ pub fn sweep_mode(
         cell -= 1;
         let whole = nodes::cell_at(ceilings, cell);
         let base = (mode * cells + cell) * corners;
-        if sweep_cell(words, nodes, base, mode, timers, whole, ceilings, rate, own, targets, prices, guards, resets, invariants) {
+        if sweep_cell(
+            words,
+            nodes,
+            base,
+            mode,
+            timers,
+            whole,
+            ceilings,
+            rate,
+            own,
+            targets,
+            prices,
+            guards,
+            resets,
+            invariants,
+        ) {
             changed = true;
         }
     }

@@ -20,11 +20,9 @@ fn relax_delays(
     invariants: &[u8],
 ) -> bool
     requires { ⌜ DelaysReady nodes from mode top delayed ceilings rate (now invariants) (now words) ⌝ }
-    ensures {
-        λ r. ⌜
-          DelaysRelaxed nodes from mode top delayed ceilings rate (now (invariants .entry)) (now (words .entry)) (now (words .exit)) r
-        ⌝
-    }
+    ensures { λ r. ⌜
+        DelaysRelaxed nodes from mode top delayed ceilings rate (now (invariants .entry)) (now (words .entry)) (now (words .exit)) r
+        ⌝ }
 {
     if !delayed.within(ceilings) {
         return false;
@@ -34,7 +32,16 @@ fn relax_delays(
     }
     let to = nodes::node_of(mode, delayed, 0, ceilings);
     let indices = delayed.prices;
-    corners::relax_delay(words, nodes, from, top, indices, delayed.top as usize, to, rate)
+    corners::relax_delay(
+        words,
+        nodes,
+        from,
+        top,
+        indices,
+        delayed.top as usize,
+        to,
+        rate,
+    )
 }
 
 // Delay, and then linger: it has an edge only where r0 is empty, from corner 0 to the last. There a delay takes a corner away.
@@ -49,14 +56,22 @@ pub fn relax_waits(
     invariants: &[u8],
 ) -> bool
     requires { ⌜ WaitsReady nodes from mode region ceilings rate (now invariants) (now words) ⌝ }
-    ensures {
-        λ r. ⌜ WaitsRelaxed nodes from mode region ceilings rate (now (invariants .entry)) (now (words .entry)) (now (words .exit)) r ⌝
-    }
+    ensures { λ r. ⌜ WaitsRelaxed nodes from mode region ceilings rate (now (invariants .entry)) (now (words .entry)) (now (words .exit)) r ⌝ }
 {
     let top = region.top as usize;
     let delayed = region.delay(0);
     let left = delayed.top as usize;
-    let changed = relax_delays(words, nodes, from, mode, top, delayed, ceilings, rate, invariants);
+    let changed = relax_delays(
+        words,
+        nodes,
+        from,
+        mode,
+        top,
+        delayed,
+        ceilings,
+        rate,
+        invariants,
+    );
     if left < top {
         if words::relax_edge(words, nodes, from, from + top, rate) {
             return true;

@@ -3,6 +3,8 @@
 pub mod Places
 pub mod Edges
 pub mod Graph
+pub mod Moving
+pub mod Modes
 pub mod System
 pub mod Comes
 -- The recursion finds the best.

@@ -120,7 +120,7 @@ module _ (a : Automaton) where
 
   module _ (ok : Proper a) where
     -- Resets lower whole parts to 0 and keep the others.
-    moved-cell : (e : ℕ) (r : PricedRegion) → WellFormed r → IsCell (a .ceilings) (r .whole) → IsCell (a .ceilings) (movedBy a e r .whole)
+    pub moved-cell : (e : ℕ) (r : PricedRegion) → WellFormed r → IsCell (a .ceilings) (r .whole) → IsCell (a .ceilings) (movedBy a e r .whole)
     unfolding charge
     moved-cell e r w c = record { sized = moved-sized a ok e r w (c .sized); below = λ t h. below t h (among t (moveAt a e .resets)) refl }
       where

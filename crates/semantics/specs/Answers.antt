@@ -3,6 +3,8 @@
 pub mod Places
 pub mod Edges
 pub mod Graph
+pub mod Waiting
+pub mod WaitingNodes
 pub mod System
 pub mod Comes
 -- The recursion finds the best.

@@ -5,6 +5,8 @@ pub mod Edges
 pub mod Graph
 pub mod Moving
 pub mod Modes
+pub mod Waiting
+pub mod WaitingNodes
 pub mod System
 pub mod Comes
 -- The recursion finds the best.

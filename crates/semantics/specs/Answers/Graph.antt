@@ -30,7 +30,7 @@ same-sym p s e = record { mode = sym (e .mode); region = shape-sym _ _ (e .regio
 -- The edges of a step do not go by the prices.
 module _ (a : Automaton) where
   -- The corners of two places of one shape have the same numbers.
-  numbered-alike : (byte : ℕ) (p s : Place) → SamePlace p s → numbered a byte p ≡ numbered a byte s
+  pub numbered-alike : (byte : ℕ) (p s : Place) → SamePlace p s → numbered a byte p ≡ numbered a byte s
   numbered-alike byte p s e =
       let node : (j : ℕ) → nodeOf (p .mode) (p .region) j ≡ nodeOf (s .mode) (s .region) j =
       λ j i. record { mode = e .mode i; whole = e .region .whole i; corner = record { group = e .region .group i; index = j } } in

@@ -12,9 +12,9 @@ use native.Mathlib.Omega.{arith}
 use lib.ListN.{length, length-set}
 use Rattle.semantics.specs.Condition.{Condition}
 use Rattle.semantics.specs.Automaton.{Automaton, modeAt, moveAt}
-use Rattle.semantics.specs.Region.{PricedRegion, WellFormed, top, merge, leave, arrive, reset, resetAll, charge, meets, meetsAll, withinFrom, within}
+use Rattle.semantics.specs.Region.{PricedRegion, WellFormed, top, merge, leave, arrive, delay, reset, resetAll, charge, meets, meetsAll, withinFrom, within}
 use Rattle.semantics.specs.CornerPath.{SameShape}
-use Rattle.semantics.specs.Regions.Cases.{lingered, resetAlone, resetJoined, reset-alone, reset-joined, alone-cases}
+use Rattle.semantics.specs.Regions.Cases.{zero-cases, delay-arrive, delay-leave, lingered, resetAlone, resetJoined, reset-alone, reset-joined, alone-cases}
 use Rattle.semantics.specs.Regions.Lengths.{leave-prices, arrive-prices, charge-prices}
 use Rattle.semantics.specs.Bounds.Stays.{Admits}
 use Rattle.semantics.specs.Bounds.Steps.{movedBy}
@@ -38,6 +38,17 @@ shape-trans r s t e f = record { whole = e .whole ∙ f .whole; group = e .group
 
 pub shape-linger : (rate : ℕ) (r : PricedRegion) → SameShape r (lingered rate r)
 shape-linger rate r = record { whole = refl; group = refl; corners = sym (length-set (r .prices) (top r) _) }
+
+-- The rate of a delay shows only in the prices.
+leave-rates : (rate rate′ : ℕ) (r : PricedRegion) → SameShape (leave rate r) (leave rate′ r)
+unfolding leave
+leave-rates rate rate′ r = record { whole = refl; group = refl; corners = leave-prices r rate ∙ sym (leave-prices r rate′) }
+
+pub shape-delay : (rate rate′ : ℕ) (r : PricedRegion) → SameShape (delay rate r) (delay rate′ r)
+shape-delay rate rate′ r =
+    ⊎-elim (λ z. rw (delay-arrive rate r z, delay-arrive rate′ r z) (record { whole = refl; group = refl; corners = refl }))
+    (λ z. rw (delay-leave rate r z, delay-leave rate′ r z) (leave-rates rate rate′ r))
+    (zero-cases r)
 
 pub shape-charge : (price : ℕ) (r : PricedRegion) → SameShape r (charge price r)
 unfolding charge

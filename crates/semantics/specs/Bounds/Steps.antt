@@ -44,7 +44,8 @@ only-if true p p′ h = (refl, Option·some-injective p p′ h)
 only-if false p p′ h = absurd (Option·none-ne-some p′ h)
 
 module _ (a : Automaton) (p : Place) where
-  delayed :
+  -- An allowed delay.
+  pub delayed :
       Admits a (p .mode) (delay (rateAt a p) (p .region))
       → Stepped a p 64 (record { mode = p .mode; region = delay (rateAt a p) (p .region) })
   delayed t =

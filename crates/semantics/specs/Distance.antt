@@ -5,8 +5,8 @@ use mathlib.Core.List.{List, [], _∷_, map}
 use Prim.Native.Nat.{ℕ, zero, suc, pred}
 use lib.Dec.{ltb, leb, eqb}
 use lib.ListN.{getD}
-use Rattle.semantics.specs.Corner.{countFrom}
-use Rattle.semantics.specs.Path.{Edge, Graph, Cost, cost, Entry, unreached, reached, along}
+use Rattle.semantics.specs.Corner.{countFrom, flatMap}
+use Rattle.semantics.specs.Path.{Edge, Graph, Cost, cost, Entry, unreached, reached, along, infinity}
 
 -- Cost b is less than cost a: by charge, then by steps.
 abbrev pub isLess : Cost → Cost → Bool
@@ -40,3 +40,12 @@ upTo g (suc n) v = relaxed (upTo g n) (g .edges v) (targetEntry g v)
 -- The least cost of all paths: E - 1 edges are enough (a theorem).
 unfoldable pub distance : Graph → ℕ → Entry
 distance g = upTo g (pred (g .nodes))
+
+-- The two words of an entry: "charge and steps"; an unreached node has infinity in both.
+abbrev pub entryWords : Entry → List ℕ
+entryWords unreached = infinity ∷ infinity ∷ []
+entryWords (reached c) = c .charge ∷ c .steps ∷ []
+
+-- The words of a search: those of the distance of every node.
+unfoldable pub distanceWords : Graph → List ℕ
+distanceWords g = flatMap (λ v. entryWords (distance g v)) (countFrom 0 (g .nodes))

@@ -9,4 +9,5 @@ pub mod Rows
 pub mod Limits
 pub mod Proper
 pub mod Holding
+pub mod Access
 pub mod Starred

@@ -27,3 +27,4 @@ pub mod Settle
 -- The distance as a function.
 pub mod UpTo
 pub mod Computed
+pub mod Found

@@ -1,23 +1,20 @@
 -- Cells and nodes over an array of ceilings: what lies behind the last ceiling changes nothing.
 -- Assumes nothing.
 use mathlib.Core.Path.{_≡_, refl, sym, ap, ap₂, _∙_}
-use mathlib.Core.Logic.{inl, inr}
-use mathlib.Core.List.{List, [], _∷_, _++_, map, List·Memᴰ}
+use mathlib.Core.List.{List, [], _∷_, _++_}
 use Prim.Native.Nat.{ℕ, zero, suc, _+_, _*_, _-_, _/_, _%_, _≤_, _<_}
 use native.Mathlib.Nat.{mod-one, div-one}
 use native.Mathlib.Omega.{arith}
-use lib.ListN.{length, getD, take, replicate, length-map}
-use Rattle.semantics.specs.Automaton.{timers}
+use lib.ListN.{length, getD, take, replicate}
 use Rattle.semantics.specs.Corner.{cornerCount}
 use Rattle.semantics.specs.Node.{factor, cellCount, cellNumber, cellAt, nodeCount}
 use Rattle.semantics.specs.Nodes.Cells.{cellAt-length}
-use Rattle.reader.specs.Fields.{Fields}
-use Rattle.reader.specs.Meaning.{modeOf, automaton}
+use Rattle.reader.specs.Meaning.{automaton}
 use Rattle.reader.specs.Held.{IsTable, held, fields}
+use Rattle.reader.specs.Theorems.Access.{getD-pad, getD-all, mode-count, timer-count}
 use Rattle.reader.specs.declared.Table.{Table}
 use Rattle.regions.specs.Held.{mostTimers, pad}
 use Rattle.regions.specs.Nodes.{mostCeiling, CeilingsFew, Padded}
-use Rattle.regions.specs.Laws.Pads.{getD-pad}
 
 -- A cell of at most three timers has 1 to 75 corners.
 pub corners-few : (n : ℕ) → n ≤ 3 → (1 ≤ cornerCount n 1) × (cornerCount n 1 ≤ 75)
@@ -70,11 +67,6 @@ module _ (n : ℕ) (ceilings : List ℕ) (p : Padded n ceilings) where
       ∙ ap (λ (k : ℕ). cellAt (take n ceilings) i ++ replicate (mostTimers - k) 0) (sym (cellAt-length (take n ceilings) i))
 
 -- The ceilings of a table.
-getD-all : (D : ℕ → Type 0) (l : List ℕ) → ((c : ℕ) → List·Memᴰ c l → D c) → D 0 → (i : ℕ) → D (getD l i 0)
-getD-all D [] h z i = z
-getD-all D (c ∷ l) h z zero = h c (List·Memᴰ.List·Memᴰ·head refl)
-getD-all D (c ∷ l) h z (suc i) = getD-all D l (λ d m. h d (List·Memᴰ.List·Memᴰ·tail m)) z i
-
 module _ (t : Table) (h : IsTable t) where
   pub table-padded : Padded (t .timers) (t .ceilings)
   unfolding held fields
@@ -86,24 +78,9 @@ module _ (t : Table) (h : IsTable t) where
       let few = getD-all (λ c. c ≤ mostCeiling) (take (t .timers) (t .ceilings)) (λ c m. h .range .ceilings-range c m .1) (omega arith) i in
       rw (ap (λ (l : List ℕ). getD l i 0) table-padded ∙ getD-pad mostTimers (take (t .timers) (t .ceilings)) i) few
 
-  pub table-timers : t .timers ≡ length (take (t .timers) (t .ceilings))
-  unfolding held fields
-  table-timers = ap (λ (u : Table). u .timers) (h .holds)
-
-  pub timers-few : (1 ≤ t .timers) × (t .timers ≤ 3)
-  unfolding fields
-  timers-few = omega (arith, table-timers, h .range .timers-range)
-
-  pub table-modes : t .modes ≡ length (automaton (fields t) .modes)
-  unfolding held
-  table-modes = ap (λ (u : Table). u .modes) (h .holds) ∙ sym (length-map (fields t .modes) modeOf)
-
-  pub modes-few : (1 ≤ t .modes) × (t .modes ≤ 16)
-  modes-few = omega (arith, table-modes, h .range .modes-range, length-map (fields t .modes) modeOf)
-
   -- E by the table's own fields.
   pub table-nodes : t .modes * cellCount (t .ceilings) * cornerCount (t .timers) 1 ≡ nodeCount (automaton (fields t))
   unfolding nodeCount fields
   table-nodes =
-      ap (λ (m : ℕ). m * cellCount (t .ceilings) * cornerCount (t .timers) 1) table-modes
-      ∙ ap₂ (λ (c n : ℕ). length (automaton (fields t) .modes) * c * cornerCount n 1) (count-padded (t .timers) (t .ceilings) table-padded) table-timers
+      ap (λ (m : ℕ). m * cellCount (t .ceilings) * cornerCount (t .timers) 1) (mode-count t h)
+      ∙ ap₂ (λ (c n : ℕ). length (automaton (fields t) .modes) * c * cornerCount n 1) (count-padded (t .timers) (t .ceilings) table-padded) (timer-count t h)

@@ -6,8 +6,9 @@ use Rattle.semantics.specs.Corner.{cornerCount}
 use Rattle.semantics.specs.Node.{cellCount, nodeCount}
 use Rattle.reader.specs.Meaning.{automaton}
 use Rattle.reader.specs.Held.{fields}
+use Rattle.reader.specs.Theorems.Access.{counts}
 use Rattle.regions.specs.Nodes.{bounded}
-use Rattle.regions.specs.Laws.Nodes.{corners-few, table-few, timers-few, modes-few, table-nodes}
+use Rattle.regions.specs.Laws.Nodes.{corners-few, table-few, table-nodes}
 use Rattle.regions.proofs.Cells.{product-few}
 use native.Mathlib.Omega.{arith}
 use Rattle.regions.proofs.nodes.node_count.Statement.{statement}
@@ -17,13 +18,13 @@ use Rattle.regions.proofs.nodes.node_count.Tie as tie
 cells : (c : tie.After-cell-count) → c .before .before .args .table .modes * c .cell-count .result ≤ 65536
 cells c =
     product-few (c .before .before .args .table .modes) (c .cell-count .result) 16 4096
-    (modes-few (c .before .before .args .table) (c .before .before .pre) .1) (c .cell-count .ensures .2)
+    (counts (c .before .before .args .table) (c .before .before .pre) .1) (c .cell-count .ensures .2)
 
 all : (c : tie.After-corners) → c .before .before .before .args .table .modes * c .before .cell-count .result * c .corners .result ≤ 4915200
 all c =
     let t = c .before .before .before .args .table in
     product-few (t .modes * c .before .cell-count .result) (c .corners .result) 65536 75 (cells (c .before))
-    (omega (arith, c .corners .ensures, corners-few (t .timers) (timers-few t (c .before .before .before .pre) .1)))
+    (omega (arith, c .corners .ensures, corners-few (t .timers) (counts t (c .before .before .before .pre) .3)))
 
 nodes : (c : tie.After-corners) →
     c .before .before .before .args .table .modes * c .before .cell-count .result * c .corners .result ≡ nodeCount (automaton (fields (c .before .before .before .args .table)))
@@ -38,7 +39,7 @@ mul-count : tie.Need-mul-count
 mul-count c = omega (arith, cells c)
 
 corners-requires : tie.Need-corners-requires
-corners-requires c κs = timers-few (c .before .before .args .table) (c .before .before .pre) .1
+corners-requires c κs = counts (c .before .before .args .table) (c .before .before .pre) .3
 
 mul-count-2 : tie.Need-mul-count-2
 mul-count-2 c = omega (arith, cells (c .before), all c)

@@ -1,0 +1,4 @@
+use Rattle.search.proofs.clear.Statement.{statement}
+
+pub clear-spec : {M : Type 1} → statement M
+clear-spec = ?

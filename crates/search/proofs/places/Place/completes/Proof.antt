@@ -1,0 +1,4 @@
+use Rattle.search.proofs.places.Place.completes.Statement.{statement}
+
+pub completes-spec : {M : Type 1} → statement M
+completes-spec = ?

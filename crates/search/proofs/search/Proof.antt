@@ -1,0 +1,4 @@
+use Rattle.search.proofs.search.Statement.{statement}
+
+pub search-spec : {M : Type 1} → statement M
+search-spec = ?

@@ -24,7 +24,8 @@ module _ (g : Graph) (nodes from top : ℕ) (prices : List ℕ) (last to rate : 
     pub delayed-none : DelayedTo 0 ws ws false
     delayed-none = record { update = update-none from (from + suc top) (delay .sound); edges = λ k h. absurd (omega arith) }
 
-    module _ (i weight : ℕ) (ws′ : List ℕ) (a : Bool) (h : i ≤ last) (weighs : weight ≡ delayWeight top rate i) (before : DelayedTo i ws ws′ a) where
+    module _ (i weight : ℕ) (ws′ : List ℕ) (a : Bool) (h : i ≤ last) (weighs : weight ≡ delayWeight top rate i)
+        (before : DelayedTo i ws ws′ a) where
       -- The edge to corner i is ready.
       pub delayed-edge : EdgeAt g (edgeTo 64 (delayWeight top rate i) to i) nodes (from + getD prices i 0) (to + i) weight ws′
       delayed-edge = record {

@@ -1,3 +1,4 @@
 -- What the contracts of the search cite.
 pub mod Edges
 pub mod Regions
+pub mod Rows

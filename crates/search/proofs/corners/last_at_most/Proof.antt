@@ -9,8 +9,6 @@ use lib.ListN.{getD}
 use borrow.Author.Needs.{needs}
 use Rattle.search.proofs.corners.last_at_most.Statement.{statement}
 use Rattle.search.proofs.corners.last_at_most.Tie as tie
-use Rattle.search.proofs.corners.last_at_most.Reads as reads
-use Rattle.search.proofs.corners.last_at_most.Lts as lts
 
 -- The places from i + 1 to `last` have more than the bound.
 abbrev Above : List ℕ → ℕ → ℕ → ℕ → Type 0
@@ -60,14 +58,15 @@ loop-less : tie.Need-loop-less Inv-loop μ-loop
 loop-less c = omega (arith, positive c)
 
 loop-again : tie.Need-loop-again Inv-loop μ-loop
-loop-again c = 
+loop-again c =
     let start = c .before .before in
     let i = c .before .loop .i in
-    let above = above-more (start .args .t1) (start .args .last) (start .args .bound) i (positive c) (c .loop-test .taken) (c .before .loop .inv .2) in
+    let above =
+        above-more (start .args .t1) (start .args .last) (start .args .bound) i (positive c) (c .loop-test .taken) (c .before .loop .inv .2) in
     (omega arith, c .before .loop .inv .1, above)
 
 returns : tie.Need-returns Inv-loop μ-loop
-returns c = 
+returns c =
     let inv = c .before .loop .inv in
     record { within = inv .0; at-most = c .loop-test .left; above = inv .2 }
 

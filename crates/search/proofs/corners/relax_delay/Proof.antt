@@ -16,9 +16,6 @@ use Rattle.search.proofs.Relaxing.{InRange, in-range}
 use Rattle.search.proofs.CornerDelays.{DelayedTo, delayed-none, delayed-edge, delayed-more, delayed-all}
 use Rattle.search.proofs.corners.relax_delay.Statement.{statement}
 use Rattle.search.proofs.corners.relax_delay.Tie as tie
-use Rattle.search.proofs.corners.relax_delay.Reads as reads
-use Rattle.search.proofs.corners.relax_delay.Lts as lts
-use Rattle.search.proofs.words.relax_edge.Reads as relax-edge-reads
 
 abbrev Inv-loop : tie.InvT-loop
 Inv-loop words₀ nodes from top last to rate prices changed₀ i₀ i-end words changed i =
@@ -33,7 +30,7 @@ add-i-end : tie.Need-add-i-end Inv-loop μ-loop
 add-i-end c = omega (arith, c .before .pre .1)
 
 loop-holds : tie.Need-loop-holds Inv-loop μ-loop
-loop-holds c = 
+loop-holds c =
     let args = c .before .args in
     (
       omega arith,
@@ -113,7 +110,7 @@ loop-less : tie.Need-loop-less Inv-loop μ-loop
 loop-less c = omega arith
 
 loop-again : tie.Need-loop-again Inv-loop μ-loop
-loop-again c = 
+loop-again c =
     let called = c .before .before .before in
     let joined = called .before .before in
     let loop = joined .before .before .loop in
@@ -127,12 +124,12 @@ loop-again c =
     )
 
 same-length : tie.Need-same-length Inv-loop μ-loop
-same-length c = 
+same-length c =
     let start = c .before .before .before in
     c .before .loop .inv .2 (start .pre .0) (start .pre .1) .update .kept
 
 returns : tie.Need-returns Inv-loop μ-loop
-returns c = 
+returns c =
     let loop = c .before .loop in
     let args = c .before .before .before .args in
     λ g delay. delayed-all g (args .nodes) (args .from) (args .top) (args .t5) (args .last) (args .to) (args .rate) (now (args .words)) delay

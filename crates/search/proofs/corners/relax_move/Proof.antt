@@ -13,10 +13,6 @@ use Rattle.search.proofs.Relaxing.{InRange, in-range}
 use Rattle.search.proofs.CornerMoves.{MovedTo, moved-none, moved-edge, moved-more, moved-all}
 use Rattle.search.proofs.corners.relax_move.Statement.{statement}
 use Rattle.search.proofs.corners.relax_move.Tie as tie
-use Rattle.search.proofs.corners.relax_move.Reads as reads
-use Rattle.search.proofs.corners.relax_move.Lts as lts
-use Rattle.search.proofs.corners.last_at_most.Reads as last-at-most-reads
-use Rattle.search.proofs.words.relax_edge.Reads as relax-edge-reads
 
 abbrev Inv-loop : tie.InvT-loop
 Inv-loop words₀ nodes from top prices last to price changed₀ j₀ j-end words changed j =
@@ -31,7 +27,7 @@ add-j-end : tie.Need-add-j-end Inv-loop μ-loop
 add-j-end c = omega (arith, c .before .pre .2)
 
 loop-holds : tie.Need-loop-holds Inv-loop μ-loop
-loop-holds c = 
+loop-holds c =
     let args = c .before .args in
     (
       omega arith,
@@ -41,7 +37,7 @@ loop-holds c =
     )
 
 last-at-most-requires : tie.Need-last-at-most-requires Inv-loop μ-loop
-last-at-most-requires c κs = 
+last-at-most-requires c κs =
     let start = c .before .before .before in
     (start .pre .2 .last-few, start .pre .2 .first)
 
@@ -49,7 +45,8 @@ last-at-most-requires c κs =
 ready :
     (c : tie.After-last-at-most Inv-loop μ-loop)
     → EdgeReady (c .before .before .before .before .args .nodes) (c .before .before .before .before .args .from + c .before .before .loop .j)
-    (c .before .before .before .before .args .to + c .last-at-most .result) (c .before .before .before .before .args .price) (c .before .before .loop .words)
+    (c .before .before .before .before .args .to + c .last-at-most .result) (c .before .before .before .before .args .price)
+    (c .before .before .loop .words)
 ready c =
     let loop = c .before .before .loop in
     let start = c .before .before .before .before in
@@ -67,14 +64,17 @@ ready c =
 range :
     (c : tie.After-last-at-most Inv-loop μ-loop)
     → InRange (c .before .before .before .before .args .nodes) (c .before .before .before .before .args .from + c .before .before .loop .j)
-    (c .before .before .before .before .args .to + c .last-at-most .result) (c .before .before .before .before .args .price) (c .before .before .loop .words)
+    (c .before .before .before .before .args .to + c .last-at-most .result) (c .before .before .before .before .args .price)
+    (c .before .before .loop .words)
 range c =
     let loop = c .before .before .loop in
     let args = c .before .before .before .before .args in
     in-range (args .nodes) (args .from + loop .j) (args .to + c .last-at-most .result) (args .price) (loop .words) (ready c)
 
 -- What the flag says after a turn.
-flag : (c : tie.Joined1 Inv-loop μ-loop) → (c .before .before .before .before .before .before .before .loop .changed || c .before .before .before .relax-edge .result) ≡ c .if1 .changed
+flag :
+    (c : tie.Joined1 Inv-loop μ-loop)
+    → (c .before .before .before .before .before .before .before .loop .changed || c .before .before .before .relax-edge .result) ≡ c .if1 .changed
 flag c =
     let a = c .before .before .before .before .before .before .before .loop .changed in
     ⊎-elim (λ w. rw (w .0 .taken, w .1) (or-true a)) (λ w. rw (w .0 .left, w .1) (or-false a)) (c .if1 .came)
@@ -95,7 +95,7 @@ loop-less : tie.Need-loop-less Inv-loop μ-loop
 loop-less c = omega arith
 
 loop-again : tie.Need-loop-again Inv-loop μ-loop
-loop-again c = 
+loop-again c =
     let called = c .before .before .before in
     let found = called .before .before in
     let loop = found .before .before .loop in
@@ -105,16 +105,17 @@ loop-again c =
       omega arith,
       λ g byte move. moved-more g byte (args .nodes) (args .from) (args .top) (args .prices) (args .last) (args .to) (args .price)
       (now (args .words)) move (loop .j) (found .last-at-most .result) (loop .words) (loop .changed) (omega arith) (found .last-at-most .ensures)
-      (loop .inv .2 g byte move) (called .relax-edge .last .0) (called .relax-edge .result) (c .if1 .changed) (flag c) (called .relax-edge .ensures),
+      (loop .inv .2 g byte move) (called .relax-edge .last .0) (called .relax-edge .result) (c .if1 .changed) (flag c)
+      (called .relax-edge .ensures),
     )
 
 same-length : tie.Need-same-length Inv-loop μ-loop
-same-length c = 
+same-length c =
     let start = c .before .before .before in
     c .before .loop .inv .2 (start .pre .0) (start .pre .1) (start .pre .2) .update .kept
 
 returns : tie.Need-returns Inv-loop μ-loop
-returns c = 
+returns c =
     let loop = c .before .loop in
     let args = c .before .before .before .args in
     λ g byte move. moved-all g byte (args .nodes) (args .from) (args .top) (args .prices) (args .last) (args .to) (args .price)

@@ -11,8 +11,6 @@ use lib.ListN.{length, set, drop, replicate}
 use borrow.Author.Needs.{needs}
 use Rattle.search.proofs.words.fill.Statement.{statement}
 use Rattle.search.proofs.words.fill.Tie as tie
-use Rattle.search.proofs.words.fill.Reads as reads
-use Rattle.search.proofs.words.fill.Lts as lts
 
 -- The list with its first n elements replaced by x.
 abbrev filled : ℕ → ℕ → List ℕ → List ℕ
@@ -54,7 +52,7 @@ loop-less : tie.Need-loop-less Inv-loop μ-loop
 loop-less c = omega arith
 
 loop-again : tie.Need-loop-again Inv-loop μ-loop
-loop-again c = 
+loop-again c =
     let start = c .before .before in
     (
       omega arith,
@@ -67,7 +65,7 @@ same-length : tie.Need-same-length Inv-loop μ-loop
 same-length c = search needs
 
 returns : tie.Need-returns Inv-loop μ-loop
-returns c = 
+returns c =
     let words = now (c .before .before .args .words) in
     let e : c .before .loop .i ≡ length words = omega arith in
     rw e at (c .before .loop .inv .2) ∙ filled-all (c .before .before .args .x) words

@@ -12,8 +12,6 @@ use Rattle.search.proofs.Relaxing.{InRange, in-range, end-bound, edge-p
 use borrow.Author.Needs.{needs}
 use Rattle.search.proofs.words.relax_edge.Statement.{statement}
 use Rattle.search.proofs.words.relax_edge.Tie as tie
-use Rattle.search.proofs.words.relax_edge.Reads as reads
-use Rattle.search.proofs.words.relax_edge.Lts as lts
 
 -- The facts of the precondition.
 range :
@@ -30,7 +28,9 @@ To c = c .before .before .args .to
 reached : (c : tie.Else1) → chargeAt (W c) (To c) ≢ infinity
 reached c e = omega (arith, c .before .slice-known .given (2 * To c))
 
-bound : (c : tie.Else1) → (chargeAt (W c) (To c) ≤ stepsAt (W c) (To c) * mostWeight) × (stepsAt (W c) (To c) < c .before .before .args .nodes)
+bound :
+    (c : tie.Else1)
+    → (chargeAt (W c) (To c) ≤ stepsAt (W c) (To c) * mostWeight) × (stepsAt (W c) (To c) < c .before .before .args .nodes)
 bound c =
     let start = c .before .before in
     end-bound (start .args .nodes) (start .args .from) (To c) (start .args .weight) (W c) (start .pre) (reached c)
@@ -81,7 +81,9 @@ slice-read-old : tie.Need-slice-read-old
 slice-read-old c = omega (arith, range (c .before .before .before .before .before))
 
 returns-3 : tie.Need-returns-3
-returns-3 c = λ g e edge. edge-passed edge (λ b k. (omega (arith, range (c .before .before .before .before .before .before), bound (c .before .before .before .before)), inl (omega arith)))
+returns-3 c =
+    let end = c .before .before .before .before in
+    λ g e edge. edge-passed edge (λ b k. (omega (arith, range (end .before .before), bound end), inl (omega arith)))
 
 mul-old-steps : tie.Need-mul-old-steps
 mul-old-steps c = omega (arith, range (c .before .before .before .before .before .before .before))
@@ -96,8 +98,9 @@ slice-read-old-steps : tie.Need-slice-read-old-steps
 slice-read-old-steps c = omega (arith, range (c .before .before .before .before .before .before .before .before))
 
 returns-4 : tie.Need-returns-4
-returns-4 c = 
-    λ g e edge. edge-passed edge (λ b k. (omega (arith, range (c .before .before .before .before .before .before .before .before .before), bound (c .before .before .before .before .before .before .before)), inr (omega arith, omega arith)))
+returns-4 c =
+    let end = c .before .before .before .before .before .before .before in
+    λ g e edge. edge-passed edge (λ b k. (omega (arith, range (end .before .before), bound end), inr (omega arith, omega arith)))
 
 mul-words : tie.Need-mul-words
 mul-words c = omega (arith, range (c .before .before .before .before .before .before .before))
@@ -124,10 +127,10 @@ same-length : tie.Need-same-length
 same-length c = search needs
 
 returns-5 : tie.Need-returns-5
-returns-5 c = 
+returns-5 c =
     let end = c .before .before .before .before .before in
-    λ g e edge. edge-stored edge _ _ (omega arith) (omega arith) (reached end) (λ q. omega (arith, range (end .before .before), bound end)) (omega arith)
-    (⊎-elim (λ w. inr (omega arith, omega arith)) (λ w. inl (omega arith)) (c .if4 .came))
+    λ g e edge. edge-stored edge _ _ (omega arith) (omega arith) (reached end) (λ q. omega (arith, range (end .before .before), bound end))
+    (omega arith) (⊎-elim (λ w. inr (omega arith, omega arith)) (λ w. inl (omega arith)) (c .if4 .came))
 
 pub relax-edge-spec : {M : Type 1} → statement M
 relax-edge-spec =

@@ -2,6 +2,7 @@
 pub mod Outcome
 pub mod Places
 -- And those of its private functions.
+pub mod Rows
 pub mod Edges
 pub mod Regions
 pub mod Settle

@@ -1,0 +1,81 @@
+-- The relaxing of an edge, by the words: what is known before it, and what it leaves, be the edge passed over or its cost stored.
+-- Assumes nothing.
+use mathlib.Core.Path.{_≡_}
+use mathlib.Core.Bool.{true, false}
+use mathlib.Core.Logic.{_≢_}
+use mathlib.Core.List.{List}
+use Prim.Native.Nat.{ℕ, suc, _+_, _*_, _≤_, _<_}
+use native.Mathlib.Omega.{arith}
+use lib.ListN.{length}
+use Rattle.semantics.specs.Path.{Edge, Graph, cost, _≼_, _≺_, infinity, chargeAt, stepsAt}
+use Rattle.semantics.specs.Paths.Words.{stored}
+use Rattle.semantics.specs.Paths.Sound.{costAt, sound-bound, relaxed-words, relaxed-stored}
+use Rattle.semantics.specs.Paths.Update.{Relaxes, update-none, update-stored}
+use Rattle.regions.specs.Nodes.{mostNodes}
+use Rattle.search.specs.Edges.{mostWeight, EdgeAt, EdgeReady}
+
+-- What the code needs to know for its indices and sums.
+pub record InRange (nodes from to weight : ℕ) (ws : List ℕ) : Type 0 where
+  pub few : nodes ≤ mostNodes
+  pub room : 2 * nodes ≤ length ws
+  pub from-node : from < nodes
+  pub to-node : to < nodes
+  pub weight-within : weight ≤ mostWeight
+
+module _ {g : Graph} {e : Edge} {nodes from to weight : ℕ} {ws : List ℕ} (edge : EdgeAt g e nodes from to weight ws) where
+  edge-in-range : InRange nodes from to weight ws
+  edge-in-range =
+      let graph = edge .graph in
+      let same = graph .counted in
+      let end = graph .closed from e (omega arith) (edge .leaves) in
+      let light = graph .light from e (omega arith) (edge .leaves) in
+      record {
+        few = graph .few;
+        room = omega (arith, edge .sound .room);
+        from-node = edge .there;
+        to-node = omega arith;
+        weight-within = omega arith;
+      }
+
+  -- The charge of a reached end.
+  edge-bound : chargeAt ws to ≢ infinity → (chargeAt ws to ≤ stepsAt ws to * mostWeight) × (stepsAt ws to < nodes)
+  edge-bound known =
+      let graph = edge .graph in
+      let range = edge-in-range in
+      rw (graph .counted) at
+          (sound-bound g ws (graph .closed) mostWeight (graph .light) (edge .sound) to (rw (graph .counted) (range .to-node)) known)
+
+  -- It is passed over.
+  pub edge-passed :
+      (chargeAt ws to ≢ infinity → suc (stepsAt ws to) < nodes
+      → (chargeAt ws from ≢ infinity) × (costAt ws from ≼ cost (weight + chargeAt ws to) (suc (stepsAt ws to))))
+      → Relaxes g from e ws ws false
+  edge-passed shown = record {
+    update = update-none from (from + 1) (edge .sound);
+    relaxed = relaxed-words g ws from e (rw (edge .leads, edge .weighs, edge .graph .counted) shown);
+  }
+
+  -- Its cost is stored.
+  pub edge-stored :
+      (charge steps : ℕ) → charge ≡ weight + chargeAt ws to → steps ≡ suc (stepsAt ws to) → chargeAt ws to ≢ infinity
+      → charge ≢ infinity → steps < nodes → cost charge steps ≺ costAt ws from
+      → Relaxes g from e ws (stored ws from (cost charge steps)) true
+  edge-stored charge steps charged counted known finite few less =
+      let graph = edge .graph in
+      let range = edge-in-range in
+      let same = graph .counted in
+      let charged′ : charge ≡ e .weight + chargeAt ws (e .to) = rw (edge .leads, edge .weighs) charged in
+      let counted′ : steps ≡ suc (stepsAt ws (e .to)) = rw (edge .leads) counted in
+      record {
+        update =
+            update-stored from e (cost charge steps) charged′ counted′ (omega arith) (edge .sound) (omega arith)
+            (rw (edge .leads) (omega arith)) (edge .leaves) (rw (edge .leads) known) finite (omega arith) less;
+        relaxed = relaxed-stored g ws from (cost charge steps) (edge .sound) (omega arith) finite less e charged′ counted′;
+      }
+
+module _ (nodes from to weight : ℕ) (ws : List ℕ) (ready : EdgeReady nodes from to weight ws) where
+  pub in-range : InRange nodes from to weight ws
+  in-range = edge-in-range (ready .2)
+
+  pub end-bound : chargeAt ws to ≢ infinity → (chargeAt ws to ≤ stepsAt ws to * mostWeight) × (stepsAt ws to < nodes)
+  end-bound = edge-bound (ready .2)

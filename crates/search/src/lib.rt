@@ -60,13 +60,6 @@ pub fn search(table: Table, goal: usize, words: &mut [u32]) -> Searched
     let modes = table.modes;
     seed(words, n, goal, modes);
     let ceilings = table.ceilings;
-    let rates = table.rates;
-    let invariants = table.invariants;
-    let sources = table.sources;
-    let targets = table.targets;
-    let prices = table.prices;
-    let guards = table.guards;
-    let resets = table.resets;
     settle::settle(
         words,
         n,
@@ -75,13 +68,13 @@ pub fn search(table: Table, goal: usize, words: &mut [u32]) -> Searched
         table.moves,
         table.timers,
         ceilings,
-        &rates,
-        &invariants,
-        &sources,
-        &targets,
-        &prices,
-        &guards,
-        &resets,
+        &table.rates,
+        &table.invariants,
+        &table.sources,
+        &table.targets,
+        &table.prices,
+        &table.guards,
+        &table.resets,
     );
     answer
 }

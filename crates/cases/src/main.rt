@@ -3,10 +3,12 @@ mod numbers;
 mod print;
 mod readings;
 mod scripts;
+mod searches;
 mod worked;
 
 fn main() {
     readings::run();
     worked::run();
     numbers::run();
+    searches::run();
 }

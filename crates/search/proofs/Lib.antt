@@ -1,0 +1,4 @@
+-- The laws that the functions' proofs cite.
+pub mod Answering
+pub mod Filling
+pub mod Finding

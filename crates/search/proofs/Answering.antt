@@ -12,7 +12,6 @@ use Rattle.semantics.specs.Automaton.{Automaton}
 use Rattle.semantics.specs.Node.{nodeCount}
 use Rattle.semantics.specs.Distance.{distanceWords}
 use Rattle.semantics.specs.CornerGraph.{cornerGraph}
-use Rattle.regions.specs.declared.nodes.Nodes.{Nodes as Count-type}
 use Rattle.regions.specs.declared.nodes.Nodes.the-variants.{Count, TooMany}
 use Rattle.regions.specs.Nodes.{mostNodes, bounded}
 use Rattle.search.specs.declared.Searched.{Searched}

@@ -4,7 +4,7 @@ use mathlib.Core.Path.{_≡_, sym, ap, _∙_}
 use mathlib.Core.List.{List, _++_}
 use Prim.Native.Nat.{ℕ, _*_}
 use native.Mathlib.Omega.{arith}
-use lib.ListN.{length, take, drop, replicate}
+use lib.ListN.{length, drop, replicate}
 use lib.Seq.{length-take-le}
 use Rattle.search.specs.Regions.{automatonOf}
 use Rattle.search.proofs.Answering.{Fits, answer-fits, cleared-refused, cleared-nodes}

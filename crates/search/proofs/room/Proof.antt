@@ -1,7 +1,7 @@
 -- `search::room` meets its contract. Assumes nothing.
 use borrow.Author.Needs.{needs}
 use mathlib.Core.Path.{_≡_, sym, _∙_}
-use Prim.Native.Nat.{ℕ, _≤_}
+use Prim.Native.Nat.{_≤_}
 use native.Mathlib.Omega.{arith}
 use Rattle.semantics.specs.Node.{nodeCount}
 use Rattle.regions.specs.Nodes.{mostNodes}

@@ -68,7 +68,7 @@ fn first_marked(marked: [bool; MOST_MODES], modes: usize) -> usize
 }
 
 // From words in which the nodes of the goal have cost 0 and no other node is reached, to the least costs.
-pub fn settle(
+pub fn settle<'a>(
     words: &mut [u32],
     nodes: usize,
     goal: usize,
@@ -76,13 +76,13 @@ pub fn settle(
     moves: usize,
     timers: usize,
     ceilings: [u8; Region::MOST_TIMERS],
-    rates: &[u16],
-    invariants: &[u8],
-    sources: &[u8],
-    targets: &[u8],
-    prices: &[u16],
-    guards: &[u8],
-    resets: &[u8],
+    rates: &'a [u16],
+    invariants: &'a [u8],
+    sources: &'a [u8],
+    targets: &'a [u8],
+    prices: &'a [u16],
+    guards: &'a [u8],
+    resets: &'a [u8],
 )
     requires { ⌜
         SettleReady nodes goal modes moves timers ceilings (now rates) (now invariants) (now sources) (now targets) (now prices)

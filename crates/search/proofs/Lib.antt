@@ -4,3 +4,4 @@ pub mod Families
 pub mod CornerMoves
 pub mod CornerDelays
 pub mod Graphs
+pub mod RegionWaits

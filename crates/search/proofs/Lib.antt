@@ -4,4 +4,6 @@ pub mod Families
 pub mod CornerMoves
 pub mod CornerDelays
 pub mod Graphs
+pub mod RegionDelays
 pub mod RegionWaits
+pub mod RegionSweep

@@ -12,7 +12,7 @@ use Rattle.semantics.specs.Region.{meetsAll, within}
 use Rattle.reader.specs.Meaning.{conditionsFrom}
 use Rattle.regions.specs.Held.{view}
 use Rattle.search.specs.Regions.{graphOf}
-use Rattle.search.proofs.RegionWaits.{row-there, ceilings-few, ceilings-padded, delays-outside, delays-unmet, delays-ready, delays-done}
+use Rattle.search.proofs.RegionDelays.{row-there, ceilings-few, ceilings-padded, delays-outside, delays-unmet, delays-ready, delays-done}
 use Rattle.search.proofs.waits.relax_delays.Statement.{statement}
 use Rattle.search.proofs.waits.relax_delays.Tie as tie
 

@@ -7,3 +7,6 @@ pub mod Graphs
 pub mod Answering
 pub mod Filling
 pub mod Finding
+pub mod RegionDelays
+pub mod RegionWaits
+pub mod RegionSweep

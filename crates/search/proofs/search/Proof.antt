@@ -2,7 +2,6 @@
 use borrow.Author.Needs.{needs}
 use mathlib.Core.Path.{sym, _∙_}
 use lib.ListN.{length}
-use Rattle.reader.specs.Theorems.Access.{lengths}
 use Rattle.search.specs.Regions.{automatonOf}
 use Rattle.search.specs.Settle.{SettleAt}
 use Rattle.search.proofs.Answering.{Fits, answer-fits, searched-refused, searched-nodes}
@@ -12,30 +11,30 @@ use Rattle.search.proofs.search.Tie as tie
 
 -- The answer is a number of nodes.
 fits : (c : tie.After-answer) →
-    Fits (automatonOf (c .before .before .before .before .args .table)) (length (c .before .before .before .before .args .words .now)) (c .answer .given .0 .0)
+    Fits (automatonOf (c .before .before .before .before .args .t1)) (length (c .before .before .before .before .args .words .now)) (c .answer .given .0 .0)
 fits c =
-    answer-fits (automatonOf (c .before .before .before .before .args .table)) (length (c .before .before .before .before .args .words .now)) (c .answer .given .0 .0)
+    answer-fits (automatonOf (c .before .before .before .before .args .t1)) (length (c .before .before .before .before .args .words .now)) (c .answer .given .0 .0)
     (sym (c .before .before .room .ensures) ∙ c .answer .given .1)
 
 -- The words of the start can be settled.
 at-start : (c : tie.After-seed) →
-    SettleAt (c .before .before .before .before .before .before .before .args .table) (c .before .before .before .answer .given .0 .0)
+    SettleAt (c .before .before .before .before .before .before .before .args .t1) (c .before .before .before .answer .given .0 .0)
     (c .before .before .before .before .before .before .before .args .goal)
-    (c .before .before .before .before .before .before .before .args .table .modes)
-    (c .before .before .before .before .before .before .before .args .table .moves)
-    (c .before .before .before .before .before .before .before .args .table .timers)
-    (c .before .before .before .before .before .before .before .args .table .ceilings)
-    (c .before .before .before .before .before .before .before .args .table .rates)
-    (c .before .before .before .before .before .before .before .args .table .invariants)
-    (c .before .before .before .before .before .before .before .args .table .sources)
-    (c .before .before .before .before .before .before .before .args .table .targets)
-    (c .before .before .before .before .before .before .before .args .table .prices)
-    (c .before .before .before .before .before .before .before .args .table .guards)
-    (c .before .before .before .before .before .before .before .args .table .resets) (c .seed .last .0)
+    (c .before .before .before .before .before .before .before .args .t1 .modes)
+    (c .before .before .before .before .before .before .before .args .t1 .moves)
+    (c .before .before .before .before .before .before .before .args .t1 .timers)
+    (c .before .before .before .before .before .before .before .args .t1 .ceilings)
+    (c .before .before .before .before .before .before .before .args .t1 .rates)
+    (c .before .before .before .before .before .before .before .args .t1 .invariants)
+    (c .before .before .before .before .before .before .before .args .t1 .sources)
+    (c .before .before .before .before .before .before .before .args .t1 .targets)
+    (c .before .before .before .before .before .before .before .args .t1 .prices)
+    (c .before .before .before .before .before .before .before .args .t1 .guards)
+    (c .before .before .before .before .before .before .before .args .t1 .resets) (c .seed .last .0)
 at-start c =
     let p = c .before .before .before in
     let s = p .before .before .before .before in
-    settle-at (s .args .table) (s .pre) (s .args .words .now) (p .answer .given .0 .0) (fits p) (s .args .goal) (c .seed .last .0) (c .seed .ensures)
+    settle-at (s .args .t1) (s .pre) (s .args .words .now) (p .answer .given .0 .0) (fits p) (s .args .goal) (c .seed .last .0) (c .seed .ensures)
 
 room-requires : tie.Need-room-requires
 room-requires c κs = search needs
@@ -50,49 +49,28 @@ returns : tie.Need-returns
 returns c =
     let s = c .before .before .before .before in
     let e = c .before .before .room .ensures in
-    (e, searched-refused (automatonOf (s .args .table)) (s .args .goal) (s .args .words .now) (c .enum-told .given .0 .0) (sym e ∙ c .enum-told .given .1))
+    (e, searched-refused (automatonOf (s .args .t1)) (s .args .goal) (s .args .words .now) (c .enum-told .given .0 .0) (sym e ∙ c .enum-told .given .1))
 
 seed-requires : tie.Need-seed-requires
 seed-requires c κs =
     let p = c .before .before in
     let s = p .before .before .before .before in
-    seed-room (s .args .table) (s .pre) (s .args .words .now) (p .answer .given .0 .0) (fits p)
-
-slice-aggregate-settle : tie.Need-slice-aggregate-settle
-slice-aggregate-settle c = search needs
-
-slice-aggregate-settle-2 : tie.Need-slice-aggregate-settle-2
-slice-aggregate-settle-2 c = search needs
-
-slice-aggregate-settle-3 : tie.Need-slice-aggregate-settle-3
-slice-aggregate-settle-3 c = search needs
-
-slice-aggregate-settle-4 : tie.Need-slice-aggregate-settle-4
-slice-aggregate-settle-4 c = let s = c .before .before .before .before .before .before .before .before .before .before .before .before .before .before .before .before .before .before .before .before .before .before in sym (lengths (s .args .table) (s .pre) .targets-length)
-
-slice-aggregate-settle-5 : tie.Need-slice-aggregate-settle-5
-slice-aggregate-settle-5 c = let s = c .before .before .before .before .before .before .before .before .before .before .before .before .before .before .before .before .before .before .before .before .before .before .before in sym (lengths (s .args .table) (s .pre) .prices-length)
-
-slice-aggregate-settle-6 : tie.Need-slice-aggregate-settle-6
-slice-aggregate-settle-6 c = let s = c .before .before .before .before .before .before .before .before .before .before .before .before .before .before .before .before .before .before .before .before .before .before .before .before in sym (lengths (s .args .table) (s .pre) .guards-length)
-
-slice-aggregate-settle-7 : tie.Need-slice-aggregate-settle-7
-slice-aggregate-settle-7 c = let s = c .before .before .before .before .before .before .before .before .before .before .before .before .before .before .before .before .before .before .before .before .before .before .before .before .before in sym (lengths (s .args .table) (s .pre) .resets-length)
+    seed-room (s .args .t1) (s .pre) (s .args .words .now) (p .answer .given .0 .0) (fits p)
 
 settle-requires : tie.Need-settle-requires
 settle-requires c κs =
-    let q = c .before .before .before .before .before .before .before .before .before .before .before .before .before .before .before .before .before .before in
-    (q .before .before .before .before .before .before .before .args .table, at-start q)
+    let q = c .before .before .before .before .before .before .before .before .before .before .before .before .before .before .before .before .before .before .before in
+    (q .before .before .before .before .before .before .before .args .t1, at-start q)
 
 same-length : tie.Need-same-length
 same-length c = search needs
 
 returns-2 : tie.Need-returns-2
 returns-2 c =
-    let q = c .before .before .before .before .before .before .before .before .before .before .before .before .before .before .before .before .before .before .before .before .before in
+    let q = c .before .before .before .before .before .before .before .before .before .before .before .before .before .before .before .before .before .before .before .before .before .before in
     let p = q .before .before .before in
     let s = p .before .before .before .before in
-    let t = s .args .table in
+    let t = s .args .t1 in
     let ws = s .args .words .now in
     let n = p .answer .given .0 .0 in
     let e = sym (p .before .before .room .ensures) ∙ p .answer .given .1 in
@@ -111,13 +89,6 @@ search-spec =
     enum-told
     returns
     seed-requires
-    slice-aggregate-settle
-    slice-aggregate-settle-2
-    slice-aggregate-settle-3
-    slice-aggregate-settle-4
-    slice-aggregate-settle-5
-    slice-aggregate-settle-6
-    slice-aggregate-settle-7
     settle-requires
     same-length
     returns-2)

@@ -18,7 +18,7 @@ pub fn fill(words: &mut [u32], x: u32)
     }
 }
 
-// Lowers the cost of a node to that by an edge from it, where that is less and takes fewer than E steps. Says whether it did.
+// Lowers the cost of a node to that by an edge from it, where that is less and takes at most E - 1 steps. Says whether it did.
 pub fn relax_edge(words: &mut [u32], nodes: usize, from: usize, to: usize, weight: u32) -> bool
     requires { ⌜ EdgeReady nodes from to weight (now words) ⌝ }
     ensures { λ r. ⌜ EdgeRelaxed nodes from to weight (now (words .entry)) (now (words .exit)) r ⌝ }
@@ -28,7 +28,7 @@ pub fn relax_edge(words: &mut [u32], nodes: usize, from: usize, to: usize, weigh
         return false;
     }
     let steps = words[2 * to + 1] + 1;
-    if nodes <= steps as usize {
+    if nodes - 1 < steps as usize {
         return false;
     }
     let charge = after + weight;

@@ -62,6 +62,9 @@ slice-read-steps c = omega (arith, range (c .before .before .before))
 add-steps-2 : tie.Need-add-steps-2
 add-steps-2 c = omega (arith, range (c .before .before .before), bound (c .before))
 
+sub-if2 : tie.Need-sub-if2
+sub-if2 c = omega (arith, range (c .before .before .before))
+
 cast-if2 : tie.Need-cast-if2
 cast-if2 c = omega (arith, range (c .before .before .before), bound (c .before))
 
@@ -145,6 +148,7 @@ relax-edge-spec =
     mul-steps-2
     slice-read-steps
     add-steps-2
+    sub-if2
     cast-if2
     returns-2
     add-charge

@@ -1,0 +1,2 @@
+-- Of the modes that are marked.
+pub mod Marking

@@ -1,2 +1,3 @@
 -- Of the modes that are marked.
 pub mod Marking
+pub mod Settling

@@ -1,6 +1,6 @@
 -- The marks of the modes and the numbers of a mode's moves, one entry at a time; and how many modes are marked.
 -- Assumes nothing.
-use mathlib.Core.Path.{_≡_, refl, sym, ap, _∙_, subst}
+use mathlib.Core.Path.{_≡_, sym, _∙_}
 use mathlib.Core.Bool.{Bool, true, false}
 use mathlib.Core.Logic.{_≢_}
 use mathlib.Core.List.{List, [], _∷_}
@@ -9,7 +9,7 @@ use native.Mathlib.Decide.{ℕ-discrete}
 use native.Mathlib.Omega.{arith}
 use lib.ListN.{length, getD, take, set, length-set}
 use lib.Seq.{length-take-le, getD-set-same, getD-set-other, getD-take}
-use Rattle.search.specs.Settle.{OwnMoves, Marks, FirstMarked}
+use Rattle.search.specs.Settle.{OwnMoves, Marks}
 
 -- Before the first move.
 pub own-none : (sources : List ℕ) (mode : ℕ) → OwnMoves sources 0 mode []

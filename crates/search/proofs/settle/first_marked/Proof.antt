@@ -5,12 +5,9 @@ use mathlib.Core.Bool.{false}
 use Prim.Native.Nat.{ℕ, _-_, _≤_, _<_}
 use native.Mathlib.Omega.{arith}
 use lib.ListN.{getD}
-use Rattle.search.specs.Settle.{FirstMarked}
 use Rattle.search.proofs.Marking.{unmarked-more}
 use Rattle.search.proofs.settle.first_marked.Statement.{statement}
 use Rattle.search.proofs.settle.first_marked.Tie as tie
-use Rattle.search.proofs.settle.first_marked.Reads as reads
-use Rattle.search.proofs.settle.first_marked.Lts as lts
 
 abbrev Inv-loop : tie.InvT-loop
 Inv-loop modes marked mode₀ mode = (mode ≤ modes) × ((m : ℕ) → m < mode → getD marked m false ≡ false)

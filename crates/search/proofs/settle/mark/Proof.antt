@@ -1,6 +1,6 @@
 -- `settle::mark` meets its contract. The loop's invariant: the sources of the first e moves into the target are marked.
 -- Assumes nothing.
-use Prim.Native.Nat.{ℕ, _-_, _≤_, _<_}
+use Prim.Native.Nat.{_-_, _≤_}
 use mathlib.Core.Bool.{true}
 use mathlib.Core.Logic.{⊎-elim}
 use mathlib.Core.Path.{_≡_, _∙_}
@@ -11,8 +11,6 @@ use Rattle.search.specs.Settle.{Marks}
 use Rattle.search.proofs.Marking.{marks-none, marks-more, marks-skip}
 use Rattle.search.proofs.settle.mark.Statement.{statement}
 use Rattle.search.proofs.settle.mark.Tie as tie
-use Rattle.search.proofs.settle.mark.Reads as reads
-use Rattle.search.proofs.settle.mark.Lts as lts
 
 abbrev Inv-loop : tie.InvT-loop
 Inv-loop target moves sources targets marked₀ e₀ marked e = (e ≤ moves) × (length marked ≡ 16) × Marks marked₀ target e sources targets marked
@@ -53,13 +51,13 @@ loop-again c =
     let o = head .loop .inv .2 in (
       omega arith,
       ⊎-elim
-      (λ a. rw (a .2) (length-set (head .loop .marked) (getD (now (args .sources)) e 0) true ∙ head .loop .inv .1))
-      (λ a. rw (a .1) (head .loop .inv .1))
-      (c .if1 .came),
+          (λ a. rw (a .2) (length-set (head .loop .marked) (getD (now (args .sources)) e 0) true ∙ head .loop .inv .1))
+          (λ a. rw (a .1) (head .loop .inv .1))
+          (c .if1 .came),
       ⊎-elim
-      (λ a. rw (a .2) (marks-more (args .t1) (args .target) e (now (args .sources)) (now (args .targets)) (head .loop .marked) o (omega arith)))
-      (λ a. rw (a .1) (marks-skip (args .t1) (args .target) e (now (args .sources)) (now (args .targets)) (head .loop .marked) o (a .0 .left)))
-      (c .if1 .came),
+          (λ a. rw (a .2) (marks-more (args .t1) (args .target) e (now (args .sources)) (now (args .targets)) (head .loop .marked) o (omega arith)))
+          (λ a. rw (a .1) (marks-skip (args .t1) (args .target) e (now (args .sources)) (now (args .targets)) (head .loop .marked) o (a .0 .left)))
+          (c .if1 .came),
     )
 
 returns : tie.Need-returns Inv-loop μ-loop

@@ -1,6 +1,6 @@
 -- `settle::moves_from` meets its contract. The loop's invariant: the first entries of the list are those of the first e moves that are the mode's.
 -- Assumes nothing.
-use Prim.Native.Nat.{ℕ, _-_, _≤_, _<_}
+use Prim.Native.Nat.{_-_, _≤_}
 use mathlib.Core.Logic.{⊎-elim}
 use mathlib.Core.Path.{_≡_, refl, _∙_}
 use native.Mathlib.Omega.{arith}
@@ -10,8 +10,6 @@ use Rattle.search.specs.Settle.{OwnMoves}
 use Rattle.search.proofs.Marking.{own-none, own-more, own-skip}
 use Rattle.search.proofs.settle.moves_from.Statement.{statement}
 use Rattle.search.proofs.settle.moves_from.Tie as tie
-use Rattle.search.proofs.settle.moves_from.Reads as reads
-use Rattle.search.proofs.settle.moves_from.Lts as lts
 
 abbrev Inv-loop : tie.InvT-loop
 Inv-loop sources moves mode count₀ list₀ e₀ count list e =
@@ -58,8 +56,8 @@ loop-again c =
       ⊎-elim (λ a. rw (a .1) (omega arith)) (λ a. rw (a .1) (omega arith)) (c .if1 .came),
       ⊎-elim (λ a. rw (a .2) (length-set l n e ∙ sized)) (λ a. rw (a .2) sized) (c .if1 .came),
       ⊎-elim (λ a. rw (a .1, a .2) (own-more sources mode e n l (omega arith) o (a .0 .taken)))
-      (λ a. rw (a .1, a .2) (own-skip sources mode e (take n l) o (a .0 .left)))
-      (c .if1 .came),
+          (λ a. rw (a .1, a .2) (own-skip sources mode e (take n l) o (a .0 .left)))
+          (c .if1 .came),
     )
 
 returns : tie.Need-returns Inv-loop μ-loop

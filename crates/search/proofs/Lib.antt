@@ -10,3 +10,5 @@ pub mod Finding
 pub mod RegionDelays
 pub mod RegionWaits
 pub mod RegionSweep
+pub mod Marking
+pub mod Settling

@@ -7,10 +7,10 @@ use Prim.Native.Nat.{ℕ, suc, _+_, _-_, _≤_, _<_}
 use native.Mathlib.Decide.{decLt}
 use native.Mathlib.Omega.{arith}
 use Rattle.semantics.specs.Automaton.{Move}
-use Rattle.semantics.specs.Path.{Edge, Leaves}
+use Rattle.semantics.specs.Path.{Edge, Leaves, Relaxed, table}
 use Rattle.semantics.specs.Answers.Moving.{edge-move}
-use Rattle.semantics.specs.Paths.Update.{Fresh, update-then, fresh-then}
-use Rattle.semantics.specs.Paths.Sweep.{Swayed, settled, stale, Swept}
+use Rattle.semantics.specs.Paths.Update.{Fresh, settled, update-then, fresh-then}
+use Rattle.semantics.specs.Paths.Sweep.{Swept}
 use Rattle.reader.specs.declared.Table.{Table}
 use Rattle.reader.specs.Theorems.Access.{move-at, move-count}
 use Rattle.regions.specs.declared.Region.{Region}
@@ -42,26 +42,23 @@ module _ {t : Table} {l nodes from mode : ℕ} {region : Region} {ceilings : Lis
           let there : e .label < t .moves = omega (arith, x .there, move-count t is) in
           record { there = there; source = sym (ap (λ (o : Move). o .source) (move-at t is (e .label) there)) ∙ x .source }
 
-      sway : (v : ℕ) (e : Edge) → e .label < 64 → Fresh (graphOf t l) from (from + suc (region .top)) ws″ k v e
-          → Swayed (graphOf t l) 64 from (from + suc (region .top)) ws″ k v e
-      sway v e s (Fresh.settled y) = settled y
-      sway v e s (Fresh.stale x l h) = stale x s l h
-
-      swayed :
+      fresh :
           (j : ℕ) → j ≤ region .top → (e : Edge) → Leaves (graphOf t l) (from + j) e → Dec (e .label < 64)
-          → Swayed (graphOf t l) 64 from (from + suc (region .top)) ws″ k (from + j) e
-      swayed j b e m (no s) = settled (waited .edges j b e m (omega arith))
-      swayed j q e m (yes s) =
+          → Fresh (graphOf t l) from (from + suc (region .top)) ws″ k (from + j) e
+      fresh j q e m (no s) = settled (waited .edges j q e m (omega arith))
+      fresh j q e m (yes s) =
           let o = h .lent .complete (e .label) (edge-own j q e m s) in
-          sway (from + j) e s (fresh-then (waited .update) (from + j) e b flag (moved .edges j q e m (o .0) (o .1) (sym (o .2))))
+          fresh-then (waited .update) (from + j) e b flag (moved .edges j q e m (o .0) (o .1) (sym (o .2)))
+
+      -- What holds of every corner holds of every node of the region.
+      each :
+          (P : ℕ → Type 0) → ((j : ℕ) → j ≤ region .top → P (from + j)) → (v : ℕ) → from ≤ v → v < from + suc (region .top) → P v
+      each P at-corner v low high = subst P (omega arith) (at-corner (v - from) (omega arith))
 
       pub region-swept : Swept (graphOf t l) 64 from (from + suc (region .top)) ws ws″ k
-      region-swept = record { update = update-then b c flag (moved .update) (waited .update); edges = edges }
-        where
-          edges :
-              (v : ℕ) → from ≤ v → v < from + suc (region .top) → (e : Edge) → Leaves (graphOf t l) v e
-              → Swayed (graphOf t l) 64 from (from + suc (region .top)) ws″ k v e
-          edges v low high e m =
-              let at-corner : from + (v - from) ≡ v = omega arith in
-              subst (λ (u : ℕ). Swayed (graphOf t l) 64 from (from + suc (region .top)) ws″ k u e) at-corner
-              (swayed (v - from) (omega arith) e (subst (λ (u : ℕ). Leaves (graphOf t l) u e) (sym at-corner) m) (decLt (e .label) 64))
+      region-swept = record {
+        update = update-then b c flag (moved .update) (waited .update);
+        edges = each (λ v. (e : Edge) → Leaves (graphOf t l) v e → Fresh (graphOf t l) from (from + suc (region .top)) ws″ k v e)
+            (λ j q e m. fresh j q e m (decLt (e .label) 64));
+        rising = each (λ v. (e : Edge) → Leaves (graphOf t l) v e → 64 ≤ e .label → Relaxed (graphOf t l) (table ws″) v e) (waited .edges);
+      }

@@ -12,8 +12,8 @@ use Rattle.semantics.specs.Path.{Edge, Graph, Leaves, Target, Closed, Co
 use Rattle.semantics.specs.Paths.Cost.{cost-both}
 use Rattle.semantics.specs.Paths.Sound.{Sound, sound-least}
 use Rattle.semantics.specs.Paths.Seed.{Seeded}
-use Rattle.semantics.specs.Paths.Update.{Outside, Update, relaxed-outside}
-use Rattle.semantics.specs.Paths.Sweep.{Swayed, settled, stale, Swept}
+use Rattle.semantics.specs.Paths.Update.{Outside, Update, Fresh, settled, stale, relaxed-outside}
+use Rattle.semantics.specs.Paths.Sweep.{Swept}
 
 -- The class m is the nodes from lo to hi.
 abbrev pub Block : Graph → (ℕ → ℕ) → ℕ → ℕ → ℕ → Type 0
@@ -81,13 +81,17 @@ module _ (g : Graph) (class : ℕ → ℕ) (k : ℕ) (closed : Closed g) (stays 
               by (no a) (no b) = inr (omega arith)
               by (no a) (yes b) = absurd (n (block u i .1 (omega arith, b)))
 
-      -- A node of the class.
-      own : (v : ℕ) (e : Edge) → v < g .nodes → Leaves g v e → Swayed g k lo hi ws′ changed v e → Relaxed g (table ws′) v e ⊎ (marked′ (class v) ≡ true)
-      own v e h l (settled r) = inl r
-      own v e h l (stale f a b d) = inr (marks f v e h l a (block (e .to) (closed v e h l) .1 (b, d)))
+      -- A node of the class: only an edge with a label below k may have to be relaxed again.
+      again : (v : ℕ) (e : Edge) → v < g .nodes → Leaves g v e → e .label < k → Fresh g lo hi ws′ changed v e → Relaxed g (table ws′) v e ⊎ (marked′ (class v) ≡ true)
+      again v e h l r (settled x) = inl x
+      again v e h l r (stale f b d) = inr (marks f v e h l r (block (e .to) (closed v e h l) .1 (b, d)))
+
+      own : (v : ℕ) (e : Edge) → v < g .nodes → Leaves g v e → lo ≤ v → v < hi → Dec (e .label < k) → Relaxed g (table ws′) v e ⊎ (marked′ (class v) ≡ true)
+      own v e h l i j (yes r) = again v e h l r (s .edges v i j e l)
+      own v e h l i j (no r) = inl (s .rising v i j e l (omega arith))
 
       at : (v : ℕ) (e : Edge) → v < g .nodes → Leaves g v e → Dec (class v ≡ m) → Relaxed g (table ws′) v e ⊎ (marked′ (class v) ≡ true)
-      at v e h l (yes q) = let i = block v h .0 q in own v e h l (s .edges v (i .0) (i .1) e l)
+      at v e h l (yes q) = let i = block v h .0 q in own v e h l (i .0) (i .1) (decLt (e .label) k)
       at v e h l (no q) = other v e h l q changed refl (ℕ-discrete (class (e .to)) m) (c .edges v e h l)
 
 -- With no class marked.

@@ -139,6 +139,13 @@ fresh-outside (settled r) o = r
 fresh-outside (stale c l h) (inl x) = absurd (omega arith)
 fresh-outside (stale c l h) (inr x) = absurd (omega arith)
 
+-- Nodes from lo′ to hi′ have those from lo to hi among them, and more may have been stored.
+pub fresh-wider :
+    {g : Graph} {lo hi : ℕ} {ws : List ℕ} {b k : Bool} {v : ℕ} {e : Edge} (lo′ hi′ : ℕ) → lo′ ≤ lo → hi ≤ hi′ → (b ≡ true → k ≡ true)
+    → Fresh g lo hi ws b v e → Fresh g lo′ hi′ ws k v e
+fresh-wider lo′ hi′ i j more (settled r) = settled r
+fresh-wider lo′ hi′ i j more (stale c l h) = stale (more c) (omega arith) (omega arith)
+
 module _ {g : Graph} {lo hi : ℕ} {ws ws′ : List ℕ} {b : Bool} (u : Update g lo hi ws ws′ b) (v : ℕ) (e : Edge) where
   -- An edge that leads elsewhere is still relaxed after an update.
   pub relaxed-outside : Outside lo hi (e .to) → Relaxed g (table ws) v e → Relaxed g (table ws′) v e

@@ -4,3 +4,5 @@ pub mod Families
 pub mod CornerMoves
 pub mod CornerDelays
 pub mod Graphs
+pub mod CellCorners
+pub mod CellSweep

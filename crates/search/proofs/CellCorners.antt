@@ -69,8 +69,7 @@ module _ (n i : ℕ) (some : 0 < n) (there : i < cornerCount n 1) where
   followed h =
       let j = suc (cornerAt n i .index) in
       let next : cornerNumber n (cornerOf region j) ≡ suc i = omega (arith, in-row j h, own-number) in
-      let k = listed j h in
-      (
+      let k = listed j h in (
         rw (← next) (number-below n (cornerOf region j) k),
         ap (λ (m : ℕ). cornerAt n m .index) (sym next) ∙ ap (λ (c : Corner). c .index) (cornerAt-number n (cornerOf region j) k),
       )

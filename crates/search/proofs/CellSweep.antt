@@ -7,12 +7,9 @@ use Prim.Native.Nat.{ℕ, zero, suc, pred, _+_, _*_, _-_, _≤_, _<_}
 use native.Mathlib.Nat.{mul-le-mul-right, suc-mul}
 use native.Mathlib.Omega.{arith}
 use lib.ListN.{length, getD, take}
-use Rattle.semantics.specs.Automaton.{modeAt}
 use Rattle.semantics.specs.Region.{PricedRegion, WellFormed}
 use Rattle.semantics.specs.Corner.{cornerOf, countFrom, cornerCount, cornerNumber, cornerAt}
-use Rattle.semantics.specs.Path.{Graph}
-use Rattle.semantics.specs.Node.{nodeOf, cellCount, cellNumber, nodeCount, nodeNumber}
-use Rattle.semantics.specs.Chain.{Place}
+use Rattle.semantics.specs.Node.{cellCount, cellNumber, nodeCount, nodeNumber}
 use Rattle.semantics.specs.CornerGraph.{highest, numberOf}
 use Rattle.semantics.specs.Corners.Lists.{length-countFrom}
 use Rattle.semantics.specs.Nodes.Radix.{pair-below}
@@ -29,7 +26,7 @@ use Rattle.regions.specs.declared.CornerAt.{CornerAt}
 use Rattle.regions.specs.Held.{mostTimers, mostCorners, pad, pack, view, Valid, packCorner}
 use Rattle.regions.specs.Laws.Fields.{packed}
 use Rattle.regions.specs.Laws.Chain.{view-pack, valid-pack}
-use Rattle.search.specs.Regions.{automatonOf, graphOf, placeOf, RegionAt, Handed, RegionReady, RegionSwept, CellAt}
+use Rattle.search.specs.Regions.{automatonOf, graphOf, RegionAt, Handed, RegionReady, RegionSwept, CellAt}
 use Rattle.search.proofs.Graphs.{searching-proper, searching-again}
 use Rattle.search.proofs.CellCorners.{Begins, regionAt, region-well-formed, first-number, begins, before, top-few}
 
@@ -175,15 +172,16 @@ module _ {t : Table} {l nodes base mode timers rate : ℕ} {whole ceilings own t
     }
 
     -- The region is swept after those above it.
-    module _ (ws′ ws″ : List ℕ) (x y z : Bool) (flag : (x || y) ≡ z)
+    module _ (ws′ : List ℕ) (x : Bool)
         (done : Swept (graphOf t l) 64 (base + m) (base + cornerCount timers 1) ws ws′ x) where
       pub region-ready : RegionReady nodes (base + number) mode s ceilings rate own targets prices guards resets invariants ws′
       region-ready = (t, l, region-at, handed-again handed (done .update))
 
       pub cell-more :
-          RegionSwept nodes (base + number) mode s ceilings rate own targets prices guards resets invariants ws′ ws″ y
+          (ws″ : List ℕ) (y z : Bool) → (x || y) ≡ z
+          → RegionSwept nodes (base + number) mode s ceilings rate own targets prices guards resets invariants ws′ ws″ y
           → Swept (graphOf t l) 64 (base + number) (base + cornerCount timers 1) ws ws″ z
-      cell-more swept =
+      cell-more ws″ y z flag swept =
           let new = swept t l region-at (handed-again handed (done .update)) in
           let low : number ≤ m = omega arith in
           let high : m ≤ cornerCount timers 1 = omega (arith, h .left, h .there) in

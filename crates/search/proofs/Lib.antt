@@ -6,3 +6,4 @@ pub mod CornerDelays
 pub mod Graphs
 pub mod CellCorners
 pub mod CellSweep
+pub mod ModeSweep

@@ -1,16 +1,11 @@
 -- `search::sweep::sweep_cell` meets its contract. The loop's invariant: the corners from `number` on were swept, and a region begins there. The
 -- measure is the number of corners left.
 -- Assumes nothing.
-use mathlib.Core.Path.{_≡_, refl, ap, _∙_, sym}
-use mathlib.Core.Bool.{true, false, _||_, or-true, or-false}
-use mathlib.Core.List.{List, []}
-use Prim.Native.Nat.{ℕ, suc, _+_, _-_, _≤_, _<_}
+use mathlib.Core.Path.{_≡_}
+use mathlib.Core.Bool.{true, or-true, or-false}
+use Prim.Native.Nat.{ℕ, _+_, _-_, _≤_, _<_}
 use native.Mathlib.Omega.{arith}
-use denote.Ref.{now}
-use lib.ListN.{getD}
-use borrow.Author.Needs.{needs}
-use Rattle.semantics.specs.Corner.{cornerCount, cornerAt}
-use Rattle.semantics.specs.CornerGraph.{highest}
+use Rattle.semantics.specs.Corner.{cornerCount}
 use Rattle.semantics.specs.Paths.Sweep.{Swept}
 use Rattle.reader.specs.declared.Table.{Table}
 use Rattle.search.specs.Regions.{graphOf, Handed, CellAt}
@@ -56,18 +51,19 @@ corners-requires c κs =
     cell-few (start .pre .2) (start .pre .3) .1
 
 loop-holds : tie.Need-loop-holds Inv-loop μ-loop
-loop-holds c =
-    (
-      omega (arith, c .corners .ensures),
-      λ h. absurd (omega (arith, c .corners .ensures)),
-      λ t l cell handed. cell-none cell handed (c .corners .result) (c .corners .ensures),
-    )
+loop-holds c = (
+  omega (arith, c .corners .ensures),
+  λ h. absurd (omega (arith, c .corners .ensures)),
+  λ t l cell handed. cell-none cell handed (c .corners .result) (c .corners .ensures),
+)
 
 sub-corner-at : tie.Need-sub-corner-at Inv-loop μ-loop
 sub-corner-at c = omega arith
 
 corner-at-requires : tie.Need-corner-at-requires Inv-loop μ-loop
-corner-at-requires c κs = let inside : c .before .loop .number - 1 < cornerCount (startOf c .args .timers) 1 = omega (arith, c .before .loop .inv .0) in (few c .1, inside)
+corner-at-requires c κs =
+    let inside : c .before .loop .number - 1 < cornerCount (startOf c .args .timers) 1 = omega (arith, c .before .loop .inv .0) in
+    (few c .1, inside)
 
 cast-indices : tie.Need-cast-indices Inv-loop μ-loop
 cast-indices c = omega (arith, turned (c .before) .few)
@@ -100,8 +96,8 @@ sweep-region-requires c κs =
     let corner = c .before .before .before in
     let loop = corner .before .before .loop in
     let start = startOf (corner .before) in
-    region-ready (start .pre .2) (start .pre .3) (loop .number) (corner .corner-at .result) (turned corner) (loop .words) (loop .words) (loop .changed)
-    false (loop .changed) (or-false (loop .changed)) (loop .inv .2 (start .pre .0) (start .pre .1) (start .pre .2) (start .pre .3))
+    region-ready (start .pre .2) (start .pre .3) (loop .number) (corner .corner-at .result) (turned corner) (loop .words) (loop .changed)
+    (loop .inv .2 (start .pre .0) (start .pre .1) (start .pre .2) (start .pre .3))
 
 loop-less : tie.Need-loop-less Inv-loop μ-loop
 loop-less c = omega arith
@@ -111,14 +107,12 @@ loop-again c =
     let called = c .before .before .before in
     let corner = called .before .before .before .before in
     let loop = corner .before .before .loop in
-    let h = turned corner in
-    (
+    let h = turned corner in (
       omega (arith, loop .inv .0),
       h .next,
       λ t l cell handed.
-          cell-more cell handed (loop .number) (corner .corner-at .result) h (loop .words) (called .sweep-region .last .0) (loop .changed)
-          (called .sweep-region .result) true (rw (c .if1 .taken) (or-true (loop .changed))) (loop .inv .2 t l cell handed)
-          (called .sweep-region .ensures),
+          cell-more cell handed (loop .number) (corner .corner-at .result) h (loop .words) (loop .changed) (loop .inv .2 t l cell handed)
+          (called .sweep-region .last .0) (called .sweep-region .result) true (rw (c .if1 .taken) (or-true (loop .changed))) (called .sweep-region .ensures),
     )
 
 loop-less-2 : tie.Need-loop-less-2 Inv-loop μ-loop
@@ -129,14 +123,12 @@ loop-again-2 c =
     let called = c .before .before .before in
     let corner = called .before .before .before .before in
     let loop = corner .before .before .loop in
-    let h = turned corner in
-    (
+    let h = turned corner in (
       omega (arith, loop .inv .0),
       h .next,
       λ t l cell handed.
-          cell-more cell handed (loop .number) (corner .corner-at .result) h (loop .words) (called .sweep-region .last .0) (loop .changed)
-          (called .sweep-region .result) (loop .changed) (rw (c .if1 .left) (or-false (loop .changed))) (loop .inv .2 t l cell handed)
-          (called .sweep-region .ensures),
+          cell-more cell handed (loop .number) (corner .corner-at .result) h (loop .words) (loop .changed) (loop .inv .2 t l cell handed)
+          (called .sweep-region .last .0) (called .sweep-region .result) (loop .changed) (rw (c .if1 .left) (or-false (loop .changed))) (called .sweep-region .ensures),
     )
 
 same-length : tie.Need-same-length Inv-loop μ-loop

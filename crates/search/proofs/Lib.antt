@@ -12,3 +12,6 @@ pub mod RegionWaits
 pub mod RegionSweep
 pub mod Marking
 pub mod Settling
+pub mod CellCorners
+pub mod CellSweep
+pub mod ModeSweep

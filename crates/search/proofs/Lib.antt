@@ -4,3 +4,6 @@ pub mod Families
 pub mod CornerMoves
 pub mod CornerDelays
 pub mod Graphs
+pub mod OwnMoves
+pub mod RegionMoves
+pub mod RowTests

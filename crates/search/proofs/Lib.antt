@@ -15,3 +15,6 @@ pub mod Settling
 pub mod CellCorners
 pub mod CellSweep
 pub mod ModeSweep
+pub mod OwnMoves
+pub mod RegionMoves
+pub mod RowTests

@@ -80,9 +80,8 @@ impl Place {
         if sources[number] as usize != self.mode {
             return unmoved;
         }
-        let guards = table.guards;
         let region = self.region;
-        if !conditions::hold_all(region, &guards, number) {
+        if !conditions::hold_all(region, &table.guards, number) {
             return unmoved;
         }
         let resets = table.resets;
@@ -91,8 +90,7 @@ impl Place {
         let moved = cleared.charge(prices[number] as u32);
         let targets = table.targets;
         let target = targets[number] as usize;
-        let invariants = table.invariants;
-        if !conditions::hold_all(moved, &invariants, target) {
+        if !conditions::hold_all(moved, &table.invariants, target) {
             return unmoved;
         }
         Stepped {
@@ -113,9 +111,8 @@ impl Place {
         let rates = table.rates;
         let region = self.region;
         let delayed = region.delay(rates[mode] as u32);
-        let invariants = table.invariants;
         let ceilings = table.ceilings;
-        if !conditions::hold_all(delayed, &invariants, mode) {
+        if !conditions::hold_all(delayed, &table.invariants, mode) {
             return Stepped {
                 allowed: false,
                 place: self,

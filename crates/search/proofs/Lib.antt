@@ -1,20 +1,27 @@
 -- The laws that the functions' proofs cite.
+-- Edges, and the corners of a region.
 pub mod Relaxing
 pub mod Families
 pub mod CornerMoves
 pub mod CornerDelays
+-- The moves and the waiting of a region, and its sweep.
 pub mod Graphs
-pub mod Answering
-pub mod Filling
-pub mod Finding
+pub mod RowTests
+pub mod OwnMoves
+pub mod RegionMoves
 pub mod RegionDelays
 pub mod RegionWaits
 pub mod RegionSweep
-pub mod Marking
-pub mod Settling
+-- Cells and modes.
 pub mod CellCorners
 pub mod CellSweep
 pub mod ModeSweep
-pub mod OwnMoves
-pub mod RegionMoves
-pub mod RowTests
+pub mod Marking
+pub mod Settling
+-- The words as a whole.
+pub mod Answering
+pub mod Filling
+pub mod Finding
+-- Places.
+pub mod Steps
+pub mod CornerCosts

@@ -7,3 +7,5 @@ pub mod Edges
 pub mod Regions
 pub mod Settle
 pub mod Seeding
+-- What a route cites of them.
+pub mod Laws

@@ -43,7 +43,7 @@ module _ {g : Graph} {e : Edge} {nodes from to weight : ℕ} {ws : List ℕ} (ed
       let graph = edge .graph in
       let range = edge-in-range in
       rw (graph .counted) at
-          (sound-bound g ws (graph .closed) mostWeight (graph .light) (edge .sound) to (rw (graph .counted) (range .to-node)) known)
+      (sound-bound g ws (graph .closed) mostWeight (graph .light) (edge .sound) to (rw (graph .counted) (range .to-node)) known)
 
   -- It is passed over.
   pub edge-passed :

@@ -174,8 +174,7 @@ pub completes-iff : (t : Table) (ws : List ℕ) (p : Place) (c : Cost) → (comp
 unfolding completes
 completes-iff t ws p c =
     let a = automatonOf t in
-    let n = length (p .region .prices) in
-    (
+    let n = length (p .region .prices) in (
       (λ e. let o = which-completes a ws p c n 0 e in corner-can a ws p c (o .0) (omega (arith, o .1)) (o .2)),
       (λ k. some-completes a ws p c n 0 (k .corner) (omega arith) (omega (arith, k .there)) (can-corner a ws p c k)),
     )

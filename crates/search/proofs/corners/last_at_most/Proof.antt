@@ -62,7 +62,7 @@ loop-again c =
     let start = c .before .before in
     let i = c .before .loop .i in
     let above =
-        above-more (start .args .t1) (start .args .last) (start .args .bound) i (positive c) (c .loop-test .taken) (c .before .loop .inv .2) in
+    above-more (start .args .t1) (start .args .last) (start .args .bound) i (positive c) (c .loop-test .taken) (c .before .loop .inv .2) in
     (omega arith, c .before .loop .inv .1, above)
 
 returns : tie.Need-returns Inv-loop μ-loop

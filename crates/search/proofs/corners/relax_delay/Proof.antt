@@ -31,8 +31,7 @@ add-i-end c = omega (arith, c .before .pre .1)
 
 loop-holds : tie.Need-loop-holds Inv-loop μ-loop
 loop-holds c =
-    let args = c .before .args in
-    (
+    let args = c .before .args in (
       omega arith,
       omega arith,
       λ g delay. delayed-none g (args .nodes) (args .from) (args .top) (args .t5) (args .last) (args .to) (args .rate) (now (args .words)) delay,
@@ -68,12 +67,11 @@ ready c =
     let start = c .before .before .before .before in
     let args = start .args in
     let g = start .pre .0 in
-    let delay = start .pre .1 in
-    (
+    let delay = start .pre .1 in (
       g,
       edgeTo 64 (delayWeight (args .top) (args .rate) (loop .i)) (args .to) (loop .i),
       delayed-edge g (args .nodes) (args .from) (args .top) (args .t5) (args .last) (args .to) (args .rate) (now (args .words)) delay (loop .i)
-      (c .if1 .weight) (loop .words) (loop .changed) (omega arith) (weighs c) (loop .inv .2 g delay),
+          (c .if1 .weight) (loop .words) (loop .changed) (omega arith) (weighs c) (loop .inv .2 g delay),
     )
 
 range :
@@ -114,13 +112,12 @@ loop-again c =
     let called = c .before .before .before in
     let joined = called .before .before in
     let loop = joined .before .before .loop in
-    let args = joined .before .before .before .before .args in
-    (
+    let args = joined .before .before .before .before .args in (
       omega arith,
       omega arith,
       λ g delay. delayed-more g (args .nodes) (args .from) (args .top) (args .t5) (args .last) (args .to) (args .rate) (now (args .words)) delay
-      (loop .i) (joined .if1 .weight) (loop .words) (loop .changed) (omega arith) (weighs joined) (loop .inv .2 g delay)
-      (called .relax-edge .last .0) (called .relax-edge .result) (c .if2 .changed) (flag c) (called .relax-edge .ensures),
+          (loop .i) (joined .if1 .weight) (loop .words) (loop .changed) (omega arith) (weighs joined) (loop .inv .2 g delay)
+          (called .relax-edge .last .0) (called .relax-edge .result) (c .if2 .changed) (flag c) (called .relax-edge .ensures),
     )
 
 same-length : tie.Need-same-length Inv-loop μ-loop

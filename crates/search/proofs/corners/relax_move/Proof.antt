@@ -28,12 +28,11 @@ add-j-end c = omega (arith, c .before .pre .2)
 
 loop-holds : tie.Need-loop-holds Inv-loop μ-loop
 loop-holds c =
-    let args = c .before .args in
-    (
+    let args = c .before .args in (
       omega arith,
       omega arith,
       λ g byte move. moved-none g byte (args .nodes) (args .from) (args .top) (args .prices) (args .last) (args .to) (args .price)
-      (now (args .words)) move,
+          (now (args .words)) move,
     )
 
 last-at-most-requires : tie.Need-last-at-most-requires Inv-loop μ-loop
@@ -53,12 +52,11 @@ ready c =
     let args = start .args in
     let g = start .pre .0 in
     let byte = start .pre .1 in
-    let move = start .pre .2 in
-    (
+    let move = start .pre .2 in (
       g,
       edgeTo byte (args .price) (args .to) (c .last-at-most .result),
       moved-edge g byte (args .nodes) (args .from) (args .top) (args .prices) (args .last) (args .to) (args .price) (now (args .words)) move
-      (loop .j) (c .last-at-most .result) (loop .words) (loop .changed) (omega arith) (c .last-at-most .ensures) (loop .inv .2 g byte move),
+          (loop .j) (c .last-at-most .result) (loop .words) (loop .changed) (omega arith) (c .last-at-most .ensures) (loop .inv .2 g byte move),
     )
 
 range :
@@ -99,14 +97,13 @@ loop-again c =
     let called = c .before .before .before in
     let found = called .before .before in
     let loop = found .before .before .loop in
-    let args = found .before .before .before .before .args in
-    (
+    let args = found .before .before .before .before .args in (
       omega arith,
       omega arith,
       λ g byte move. moved-more g byte (args .nodes) (args .from) (args .top) (args .prices) (args .last) (args .to) (args .price)
-      (now (args .words)) move (loop .j) (found .last-at-most .result) (loop .words) (loop .changed) (omega arith) (found .last-at-most .ensures)
-      (loop .inv .2 g byte move) (called .relax-edge .last .0) (called .relax-edge .result) (c .if1 .changed) (flag c)
-      (called .relax-edge .ensures),
+          (now (args .words)) move (loop .j) (found .last-at-most .result) (loop .words) (loop .changed) (omega arith) (found .last-at-most .ensures)
+          (loop .inv .2 g byte move) (called .relax-edge .last .0) (called .relax-edge .result) (c .if1 .changed) (flag c)
+          (called .relax-edge .ensures),
     )
 
 same-length : tie.Need-same-length Inv-loop μ-loop

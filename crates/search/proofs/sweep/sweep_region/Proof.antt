@@ -38,9 +38,9 @@ returns c =
     let moved = waited .before .before .before .before in
     let start = moved .before .before .before .before .before .before .before .before .before in
     λ t l r h.
-        let done = moved .relax-moves .ensures t l (start .args .mode) (moves-at r h) in
-        region-swept r h done (waited .relax-waits .result) (flag-true (waited .relax-waits .result) (c .if1 .taken))
-        (waited .relax-waits .ensures t l (waits-at r h done))
+    let done = moved .relax-moves .ensures t l (start .args .mode) (moves-at r h) in
+    region-swept r h done (waited .relax-waits .result) (flag-true (waited .relax-waits .result) (c .if1 .taken))
+    (waited .relax-waits .ensures t l (waits-at r h done))
 
 same-length-2 : tie.Need-same-length-2
 same-length-2 c = search needs
@@ -51,9 +51,9 @@ returns-2 c =
     let moved = waited .before .before .before .before in
     let start = moved .before .before .before .before .before .before .before .before .before in
     λ t l r h.
-        let done = moved .relax-moves .ensures t l (start .args .mode) (moves-at r h) in
-        region-swept r h done (waited .relax-waits .result) (flag-false (waited .relax-waits .result) (c .if1 .left))
-        (waited .relax-waits .ensures t l (waits-at r h done))
+    let done = moved .relax-moves .ensures t l (start .args .mode) (moves-at r h) in
+    region-swept r h done (waited .relax-waits .result) (flag-false (waited .relax-waits .result) (c .if1 .left))
+    (waited .relax-waits .ensures t l (waits-at r h done))
 
 pub sweep-region-spec : {M : Type 1} → statement M
 sweep-region-spec =

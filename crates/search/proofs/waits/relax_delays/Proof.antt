@@ -58,8 +58,7 @@ relax-delay-requires : tie.Need-relax-delay-requires
 relax-delay-requires c κs =
     let called = c .before .before .before in
     let tested = called .before in
-    let start = tested .before .before .before .before .before .before in
-    (
+    let start = tested .before .before .before .before .before .before in (
       graphOf (start .pre .0) (start .pre .1),
       delays-ready (start .pre .3) (inside (tested .before .before)) (met tested) (called .node-of .result) (called .node-of .ensures),
     )
@@ -73,9 +72,9 @@ returns-3 c =
     let called = relaxed .before .before .before .before in
     let tested = called .before in
     λ t l region d.
-        delays-done d (inside (tested .before .before)) (met tested) (called .node-of .result) (called .node-of .ensures)
-        (relaxed .relax-delay .ensures (graphOf t l)
-        (delays-ready d (inside (tested .before .before)) (met tested) (called .node-of .result) (called .node-of .ensures)))
+    delays-done d (inside (tested .before .before)) (met tested) (called .node-of .result) (called .node-of .ensures)
+    (relaxed .relax-delay .ensures (graphOf t l)
+    (delays-ready d (inside (tested .before .before)) (met tested) (called .node-of .result) (called .node-of .ensures)))
 
 pub relax-delays-spec : {M : Type 1} → statement M
 relax-delays-spec =

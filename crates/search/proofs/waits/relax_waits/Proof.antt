@@ -59,8 +59,7 @@ relax-edge-requires : tie.Need-relax-edge-requires
 relax-edge-requires c κs =
     let delayed = c .before .before .before .before in
     let start = delayed .before .before .before .before .before .before .before in
-    let w = start .pre .2 in
-    (
+    let w = start .pre .2 in (
       graphOf (start .pre .0) (start .pre .1),
       lingers w,
       linger-ready w (delayed .before .before .before .delay .ensures) (delays delayed (start .pre .0) (start .pre .1) w) (c .before .if1 .taken),
@@ -75,9 +74,9 @@ returns c =
     let delayed = relaxed .before .before .before .before .before in
     let is = delayed .before .before .before .delay .ensures in
     λ t l w.
-        let done = delays delayed t l w in
-        waits-lingered w is done (relaxed .relax-edge .result) (flag-true (delayed .relax-delays .result) (c .if2 .taken))
-        (relaxed .relax-edge .ensures (graphOf t l) (lingers w) (linger-ready w is done (relaxed .before .before .if1 .taken)))
+    let done = delays delayed t l w in
+    waits-lingered w is done (relaxed .relax-edge .result) (flag-true (delayed .relax-delays .result) (c .if2 .taken))
+    (relaxed .relax-edge .ensures (graphOf t l) (lingers w) (linger-ready w is done (relaxed .before .before .if1 .taken)))
 
 same-length-2 : tie.Need-same-length-2
 same-length-2 c = search needs
@@ -88,9 +87,9 @@ returns-2 c =
     let delayed = relaxed .before .before .before .before .before in
     let is = delayed .before .before .before .delay .ensures in
     λ t l w.
-        let done = delays delayed t l w in
-        waits-lingered w is done (relaxed .relax-edge .result) (flag-false (delayed .relax-delays .result) (c .if2 .left))
-        (relaxed .relax-edge .ensures (graphOf t l) (lingers w) (linger-ready w is done (relaxed .before .before .if1 .taken)))
+    let done = delays delayed t l w in
+    waits-lingered w is done (relaxed .relax-edge .result) (flag-false (delayed .relax-delays .result) (c .if2 .left))
+    (relaxed .relax-edge .ensures (graphOf t l) (lingers w) (linger-ready w is done (relaxed .before .before .if1 .taken)))
 
 same-length-3 : tie.Need-same-length-3
 same-length-3 c = search needs

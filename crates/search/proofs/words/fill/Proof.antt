@@ -53,8 +53,7 @@ loop-less c = omega arith
 
 loop-again : tie.Need-loop-again Inv-loop μ-loop
 loop-again c =
-    let start = c .before .before in
-    (
+    let start = c .before .before in (
       omega arith,
       omega arith,
       rw (c .before .loop .inv .2) (filled-more (c .before .loop .i) (start .args .x) (now (start .args .words)) (omega arith)),

@@ -21,8 +21,7 @@ node-of-requires : tie.Need-node-of-requires
 node-of-requires c κs =
     let start = c .before .before .before in
     let t = start .args .table in
-    let s = start .args .self in
-    (
+    let s = start .args .self in (
       start .pre .1 .valid,
       start .pre .2,
       mode-few t (start .pre .0) s (start .pre .1),

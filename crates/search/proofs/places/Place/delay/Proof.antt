@@ -35,8 +35,7 @@ hold-all-requires c κs =
     let t = start .args .t2 in
     let s = start .args .self in
     let k = start .pre .0 in
-    let p = start .pre .1 in
-    (
+    let p = start .pre .1 in (
       delay-valid t k s p (after .delay .result) (after .delay .ensures),
       omega (arith, mode-few t k s p),
       mode-row t k s p (s .mode) (mode-below t k s p),

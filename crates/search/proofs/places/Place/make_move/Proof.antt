@@ -77,8 +77,7 @@ returns-2 c =
 hold-all-requires : tie.Need-hold-all-requires
 hold-all-requires c κs =
     let passed = first (c .before .before .before .before) in
-    let start = passed .before in
-    (
+    let start = passed .before in (
       start .pre .1 .valid,
       few passed,
       move-row (start .args .t2) (start .pre .0) (start .args .self) (start .pre .1) (start .args .number) (there passed),
@@ -113,8 +112,7 @@ charge-requires c κs =
     let t = start .args .t2 in
     let s = start .args .self in
     let e = start .args .number in
-    let b = there (first (second passed)) in
-    (
+    let b = there (first (second passed)) in (
       cleared-valid t (start .pre .0) s (start .pre .1) e b (c .reset-all .result) (c .reset-all .ensures),
       price-room t (start .pre .0) s (start .pre .1) e b (c .reset-all .result) (c .reset-all .ensures) (start .pre .2),
     )
@@ -136,8 +134,7 @@ hold-all-requires-2 c κs =
     let start = start-of passed in
     let t = start .args .t2 in
     let e = start .args .number in
-    let below = target-below t (start .pre .0) e (there (first (second passed))) in
-    (
+    let below = target-below t (start .pre .0) e (there (first (second passed))) in (
       valid-charged charged,
       omega (arith, below, counts t (start .pre .0)),
       mode-row t (start .pre .0) (start .args .self) (start .pre .1) (getD (t .targets) e 0) below,

@@ -1,0 +1,5 @@
+-- What the contract of planning means.
+pub mod Plan
+pub mod Promise
+-- And those of the private functions.
+pub mod Choose

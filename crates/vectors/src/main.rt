@@ -1,0 +1,32 @@
+// Plans the tables on standard input, each behind its length in 16 bits, the low byte first, and prints for each what `plan` prints.
+use libc::STDIN_FILENO;
+use libc::STDOUT_FILENO;
+
+fn main() {
+    let mut bytes = io::large_buffer();
+    let count = io::read_full(STDIN_FILENO, &mut bytes);
+    each(&bytes[..count]);
+}
+
+// The tables one after another, as long as there is a whole one.
+fn each(bytes: &[u8]) {
+    let mut rest = bytes;
+    while 2 <= rest.len() {
+        let length = rest[0] as usize + 256 * (rest[1] as usize);
+        let end = 2 + length;
+        if rest.len() < end {
+            return;
+        }
+        one(&rest[2..end]);
+        rest = &rest[end..];
+    }
+}
+
+fn one(table: &[u8]) {
+    let mut words = [0u32; 6000];
+    let mut route = [0u8; 256];
+    let answer = route::plan(table, &mut words, &mut route);
+    let mut text = [0u8; 1100];
+    let length = report::write_lines(answer, &route, &mut text);
+    io::write_all(STDOUT_FILENO, &text[..length]);
+}

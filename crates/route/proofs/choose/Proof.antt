@@ -3,7 +3,6 @@
 use mathlib.Core.Logic.{⊎-elim}
 use Prim.Native.Nat.{_-_, _≤_}
 use native.Mathlib.Omega.{arith}
-use borrow.Author.Needs.{needs}
 use Rattle.semantics.specs.Path.{cost}
 use Rattle.route.proofs.Choosing.{Leads, Fails, NoneBelow, step-leads, step-refused, test-fails, test-holds, none-first, none-next, not-none}
 use Rattle.route.proofs.choose.Statement.{statement}
@@ -19,7 +18,10 @@ abbrev start : tie.After-next Inv-loop μ-loop → tie.Start Inv-loop μ-loop
 start c = c .before .before .before .before .before
 
 -- The place that an allowed step leads to.
-leads : (c : tie.Then1 Inv-loop μ-loop) → Leads (start (c .before) .args .table) (start (c .before) .args .place) (c .before .before .before .before .loop .byte) (c .before .before .step .result .place)
+leads :
+    (c : tie.Then1 Inv-loop μ-loop)
+    → Leads (start (c .before) .args .table) (start (c .before) .args .place) (c .before .before .before .before .loop .byte)
+    (c .before .before .step .result .place)
 leads c =
     let s = start (c .before) in
     step-leads (s .args .table) (s .pre .found .is-table) (s .args .place) (s .pre .held) (c .before .before .before .before .loop .byte)
@@ -69,9 +71,11 @@ loop-less c = omega arith
 loop-again : tie.Need-loop-again Inv-loop μ-loop
 loop-again c =
     let s = start (c .before) in
-    let at-loop = c .before .before .before .before in
-    (omega arith, none-next (s .args .table) (s .args .words .now) (s .args .place) (cost (s .args .charge) (s .args .left)) (at-loop .loop .byte)
-    (at-loop .loop .inv .1) (passed c))
+    let at-loop = c .before .before .before .before in (
+      omega arith,
+      none-next (s .args .table) (s .args .words .now) (s .args .place) (cost (s .args .charge) (s .args .left)) (at-loop .loop .byte)
+          (at-loop .loop .inv .1) (passed c),
+    )
 
 returns-2 : tie.Need-returns-2 Inv-loop μ-loop
 returns-2 c =

@@ -1,1 +1,3 @@
 -- The laws that the functions' proofs cite.
+-- From the bytes and the words to the outcome.
+pub mod Planning

@@ -12,7 +12,6 @@ use Rattle.semantics.specs.Path.{Graph, Entry, unreached, reached}
 use Rattle.semantics.specs.Node.{nodeCount}
 use Rattle.semantics.specs.Distance.{distance, entryWords, distanceWords}
 use Rattle.semantics.specs.CornerGraph.{cornerGraph}
-use Rattle.semantics.specs.Answer.{answer}
 use Rattle.semantics.specs.Answers.Graph.{graph-nodes}
 use Rattle.reader.specs.declared.Table.{Table}
 use Rattle.reader.specs.declared.Reading.{Reading}
@@ -20,18 +19,18 @@ use Rattle.reader.specs.declared.Verdict.the-variants.{Accepted, Refused as Ver
 use Rattle.reader.specs.Fields.{Fields}
 use Rattle.reader.specs.Meaning.{automaton}
 use Rattle.reader.specs.Read.{Judgement, accepted, rejected, read}
-use Rattle.reader.specs.Held.{reading, held, fields, IsTable}
+use Rattle.reader.specs.Held.{reading, fields, IsTable}
 use Rattle.reader.specs.Theorems.Holding.{fields-held, accepted-range}
 use Rattle.regions.specs.Nodes.{mostNodes}
 use Rattle.search.specs.declared.Searched.{Searched}
 use Rattle.search.specs.declared.Searched.the-variants.{Nodes as Searched·Nodes, Refused as Searched·Refused}
-use Rattle.search.specs.Regions.{automatonOf, graphOf}
+use Rattle.search.specs.Regions.{automatonOf}
 use Rattle.search.specs.Outcome.{answered, searched, cleared}
 use Rattle.search.specs.Laws.{searched-least}
-use Rattle.search.proofs.Answering.{Fits, answer-nodes, answer-fits, searched-refused, searched-nodes, cleared-nodes}
+use Rattle.search.proofs.Answering.{answer-fits, searched-refused, searched-nodes, cleared-nodes}
 use Rattle.route.specs.declared.Answer.{Answer}
 use Rattle.route.specs.declared.Answer.the-variants.{Refused}
-use Rattle.route.specs.Plan.{Outcome, outcome, routed, afterRoom, plannedTable, judged, planned}
+use Rattle.route.specs.Plan.{Outcome, outcome, afterRoom, plannedTable, judged, planned}
 use Rattle.route.specs.Promise.{KeepsDemand}
 use Rattle.route.specs.Choose.{Found, ReadOff}
 use Rattle.route.specs.Keeps.{planned-keeps}
@@ -126,14 +125,14 @@ module _ (t : Table) (ws : List ℕ) where
       ap (λ (v : List ℕ). outcome r v rs′) (clear ∙ ap (cleared a) is ∙ cleared-searched a (t .goal) ws n e)
       ∙ off ws ∙ sym (ap (λ (s : Searched). afterRoom s a ws rs) e)
 
+-- A call with the outcome of the definitions keeps demand 3.
+pub outcome-keeps :
+    (bytes ws ws′ rs rs′ : List ℕ) (r : Answer) → outcome r ws′ rs′ ≡ planned bytes ws rs → KeepsDemand bytes (length ws) rs′ r
+outcome-keeps bytes ws ws′ rs rs′ r e =
+    subst (λ (o : Outcome). KeepsDemand bytes (length ws) (o .route) (o .answer)) (sym e) (planned-keeps bytes ws rs)
+
 -- From the reading of the bytes.
 module _ (bytes : List ℕ) (r : Reading) (is : r ≡ reading (read bytes)) (ws rs : List ℕ) where
-  -- An outcome of the definitions keeps demand 3.
-  pub outcome-keeps :
-      (x : Answer) (ws′ rs′ : List ℕ) → outcome x ws′ rs′ ≡ planned bytes ws rs → KeepsDemand bytes (length ws) rs′ x
-  outcome-keeps x ws′ rs′ e =
-      subst (λ (o : Outcome). KeepsDemand bytes (length ws) (o .route) (o .answer)) (sym e) (planned-keeps bytes ws rs)
-
   -- A refusal of the reader.
   pub planned-refused : (n : ℕ) → r .verdict ≡ Verdict·Refused n → outcome (Refused n) ws rs ≡ planned bytes ws rs
   unfolding planned reading

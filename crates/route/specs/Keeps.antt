@@ -4,7 +4,7 @@ use mathlib.Core.Path.{_≡_, refl, sym, ap, subst, _∙_}
 use mathlib.Core.Logic.{_↔_, _≢_}
 use mathlib.Core.Bool.{Bool, true, false, cond}
 use mathlib.Core.List.{List, _++_}
-use Prim.Native.Nat.{ℕ, _*_, _≤_}
+use Prim.Native.Nat.{ℕ, _*_}
 use native.Mathlib.Omega.{arith}
 use borrow.Author.Tests.{leb-true, leb-false}
 use lib.Dec.{leb}
@@ -24,12 +24,11 @@ use Rattle.reader.specs.Theorems.Refusals.{rejected-range}
 use Rattle.regions.specs.Nodes.{mostNodes}
 use Rattle.search.specs.declared.Searched.the-variants.{Nodes as Searched·Nodes, Refused as Searched·Refused}
 use Rattle.search.specs.Outcome.{answered, cleared}
-use Rattle.route.specs.declared.Answer.{Answer}
 use Rattle.route.specs.declared.Answer.the-variants.{Refused, NoRoute, Route}
 use Rattle.route.specs.Plan.{Outcome, outcome, routed, afterRoom, plannedTable, judged, planned}
 use Rattle.route.specs.Promise.{IsSearched, KeepsDemand}
 
--- What is no answer of the other kind.
+-- Neither a refusal nor no route reports a charge.
 never-route : (C n k : ℕ) → Refused k ≡ Route C n → ⊥
 never-route C n k e = let z : _≡_ {A = ℕ} 0 1 = cc in omega arith
 

@@ -1,10 +1,9 @@
 -- `route::plan` meets its contract. Assumes nothing.
 use borrow.Author.Needs.{needs}
-use mathlib.Core.Path.{_≡_, _∙_}
+use mathlib.Core.Path.{_∙_}
 use Prim.Native.Nat.{ℕ, _<_}
 use native.Mathlib.Omega.{arith}
 use lib.ListN.{getD}
-use Rattle.reader.specs.Held.{IsTable}
 use Rattle.reader.specs.Theorems.Holding.{accepted-table}
 use Rattle.route.proofs.Planning.{outcome-keeps, planned-refused, planned-accepted}
 use Rattle.route.proofs.plan.Statement.{statement}
@@ -38,7 +37,7 @@ returns c =
     let rs = s .route .now in
     let n = c .before .verdict .given .0 .0 in
     let e = planned-refused bytes (p .read .result) (p .read .ensures) ws rs n (c .before .verdict .given .1) in
-    (e, outcome-keeps bytes (p .read .result) (p .read .ensures) ws rs _ ws rs e)
+    (e, outcome-keeps bytes ws ws rs rs _ e)
 
 same-length : tie.Need-same-length
 same-length c = search needs
@@ -56,7 +55,7 @@ returns-2 c =
     let ws = s .words .now in
     let rs = s .route .now in
     let e = q .plan-table .ensures ∙ planned-accepted bytes (p .read .result) (p .read .ensures) ws rs (small p) (told .enum-told .given .1) in
-    (e, outcome-keeps bytes (p .read .result) (p .read .ensures) ws rs (q .plan-table .result) (q .plan-table .last .1 .0) (q .plan-table .last .1 .1 .0) e)
+    (e, outcome-keeps bytes ws (q .plan-table .last .1 .0) rs (q .plan-table .last .1 .1 .0) (q .plan-table .result) e)
 
 pub plan-spec : {M : Type 1} → statement M
 plan-spec =

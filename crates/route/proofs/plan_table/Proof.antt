@@ -1,6 +1,6 @@
 -- `route::plan_table` meets its contract. Assumes nothing.
 use borrow.Author.Needs.{needs}
-use mathlib.Core.Path.{_≡_, sym, _∙_}
+use mathlib.Core.Path.{sym, _∙_}
 use Rattle.route.proofs.Planning.{found-searched, table-refused, table-searched}
 use Rattle.route.proofs.plan_table.Statement.{statement}
 use Rattle.route.proofs.plan_table.Tie as tie

@@ -93,8 +93,20 @@ fn refusals() {
     plan_case(b"refusal 1", b"", WORDS, ROUTE, 0);
     plan_case(b"refusal 2", b"\x00", WORDS, ROUTE, 0);
     plan_case(b"refusal 3", b"\x01\x01\x00\x00\x01\x80", WORDS, ROUTE, 0);
-    plan_case(b"refusal 4", b"\x01\x01\x00\x00\x01\x02\x00", WORDS, ROUTE, 0);
-    plan_case(b"refusal 5", b"\x01\x01\x01\x00\x01\x00\x00\x01", WORDS, ROUTE, 0);
+    plan_case(
+        b"refusal 4",
+        b"\x01\x01\x00\x00\x01\x02\x00",
+        WORDS,
+        ROUTE,
+        0,
+    );
+    plan_case(
+        b"refusal 5",
+        b"\x01\x01\x01\x00\x01\x00\x00\x01",
+        WORDS,
+        ROUTE,
+        0,
+    );
 }
 
 // The same, 6 to 8.
@@ -106,7 +118,13 @@ fn later_refusals() {
         ROUTE,
         0,
     );
-    plan_case(b"refusal 7", b"\x01\x01\x00\x00\x01\x02\x41", WORDS, ROUTE, 0);
+    plan_case(
+        b"refusal 7",
+        b"\x01\x01\x00\x00\x01\x02\x41",
+        WORDS,
+        ROUTE,
+        0,
+    );
     plan_case(
         b"refusal 8, E = 67,200",
         b"\x10\x03\x00\x00\x06\x03\x01\x00\x00\x00\x00\x00\x00\x00\x00\x00\x00\x00\x00\x00\x00\x00\x00",

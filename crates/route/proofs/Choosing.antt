@@ -16,7 +16,7 @@ use Rattle.search.specs.declared.places.Place.{Place as PlaceHeld}
 use Rattle.search.specs.declared.places.Stepped.{Stepped}
 use Rattle.search.specs.Regions.{automatonOf}
 use Rattle.search.specs.Places.{packPlace, viewPlace, packStep, PlaceAt, completes}
-use Rattle.search.specs.Laws.{step-at, completes-iff}
+use Rattle.search.specs.Laws.Chains.{step-at, completes-iff}
 use Rattle.route.specs.Choose.{Onward, IsChosen}
 
 clash : true ≡ false → ⊥

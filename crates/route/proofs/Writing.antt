@@ -22,7 +22,7 @@ use Rattle.regions.specs.Nodes.{mostNodes}
 use Rattle.search.specs.declared.places.Place.{Place as PlaceHeld}
 use Rattle.search.specs.Regions.{automatonOf}
 use Rattle.search.specs.Places.{packPlace, viewPlace, PlaceAt}
-use Rattle.search.specs.Laws.{PricesBelow, start-at, step-prices, prices-room}
+use Rattle.search.specs.Laws.Chains.{PricesBelow, start-at, step-prices, prices-room}
 use Rattle.route.specs.declared.Chosen.{Chosen as ChosenHeld}
 use Rattle.route.specs.Choose.{Onward, IsChosen, Reached, Written}
 

@@ -3,3 +3,5 @@ pub mod Plan
 pub mod Promise
 -- And those of the private functions.
 pub mod Choose
+-- The outcome of the definitions keeps demand 3.
+pub mod Keeps

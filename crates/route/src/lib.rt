@@ -32,12 +32,10 @@ pub struct Chosen {
 
 // Plans the table that the bytes are, with the memory lent for the search and for the route.
 pub fn plan(bytes: &[u8], words: &mut [u32], route: &mut [u8]) -> Answer
-    ensures outcome {
-        λ r. ⌜
-          outcome r (now (words .exit)) (now (route .exit))
-          ≡ planned (now (bytes .entry)) (now (words .entry)) (now (route .entry))
-        ⌝
-    }
+    ensures outcome { λ r. ⌜
+        outcome r (now (words .exit)) (now (route .exit))
+        ≡ planned (now (bytes .entry)) (now (words .entry)) (now (route .entry))
+        ⌝ }
     ensures demand { λ r. ⌜ KeepsDemand (now (bytes .entry)) (length (now (words .entry))) (now (route .exit)) r ⌝ }
 {
     let reading = reader::read(bytes);
@@ -54,12 +52,10 @@ pub fn plan(bytes: &[u8], words: &mut [u32], route: &mut [u8]) -> Answer
 // Plans a table that was read.
 fn plan_table(table: Table, words: &mut [u32], route: &mut [u8]) -> Answer
     requires { ⌜ IsTable table ⌝ }
-    ensures {
-        λ r. ⌜
-          outcome r (now (words .exit)) (now (route .exit))
-          ≡ plannedTable (automatonOf table) (now (words .entry)) (now (route .entry))
-        ⌝
-    }
+    ensures { λ r. ⌜
+        outcome r (now (words .exit)) (now (route .exit))
+        ≡ plannedTable (automatonOf table) (now (words .entry)) (now (route .entry))
+        ⌝ }
 {
     let goal = table.goal;
     let searched = search::search(table, goal, words);

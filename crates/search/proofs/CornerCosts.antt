@@ -20,7 +20,7 @@ use Rattle.search.specs.declared.places.Place.{Place as PlaceHeld}
 use Rattle.search.specs.declared.places.Cost.{Cost as CostHeld}
 use Rattle.search.specs.Regions.{automatonOf}
 use Rattle.search.specs.Places.{viewPlace, PlaceAt, CornerThere, costOf, completesWith, cornerCompletes, completes}
-use Rattle.search.specs.Laws.{none-completes, some-completes}
+use Rattle.search.specs.Laws.Chains.{none-completes, some-completes}
 use Rattle.search.proofs.Steps.{timers-are}
 
 -- A test that fails below i, and at i, fails below i + 1.

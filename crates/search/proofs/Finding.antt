@@ -26,7 +26,7 @@ use Rattle.reader.specs.Theorems.Access.{table-proper, counts, mode-count}
 use Rattle.search.specs.Regions.{automatonOf, graphOf}
 use Rattle.search.specs.Seeding.{SeedRoom, Seeds}
 use Rattle.search.specs.Settle.{SettleAt, LeastWords}
-use Rattle.search.proofs.Answering.{Fits}
+use Rattle.search.specs.Laws.Answers.{Fits}
 
 -- How many nodes a mode has.
 abbrev modeNodes : Table → ℕ

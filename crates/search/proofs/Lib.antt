@@ -19,7 +19,6 @@ pub mod ModeSweep
 pub mod Marking
 pub mod Settling
 -- The words as a whole.
-pub mod Answering
 pub mod Filling
 pub mod Finding
 -- Places.

@@ -7,7 +7,7 @@ use native.Mathlib.Omega.{arith}
 use lib.ListN.{length, drop, replicate}
 use lib.Seq.{length-take-le}
 use Rattle.search.specs.Regions.{automatonOf}
-use Rattle.search.proofs.Answering.{Fits, answer-fits, cleared-refused, cleared-nodes}
+use Rattle.search.specs.Laws.Answers.{Fits, answer-fits, cleared-refused, cleared-nodes}
 use Rattle.search.proofs.clear.Statement.{statement}
 use Rattle.search.proofs.clear.Tie as tie
 

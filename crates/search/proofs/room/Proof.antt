@@ -6,7 +6,7 @@ use native.Mathlib.Omega.{arith}
 use Rattle.semantics.specs.Node.{nodeCount}
 use Rattle.regions.specs.Nodes.{mostNodes}
 use Rattle.search.specs.Regions.{automatonOf}
-use Rattle.search.proofs.Answering.{count-few, count-many, answer-many, answer-short, answer-nodes}
+use Rattle.search.specs.Laws.Answers.{count-few, count-many, answer-many, answer-short, answer-nodes}
 use Rattle.search.proofs.room.Statement.{statement}
 use Rattle.search.proofs.room.Tie as tie
 

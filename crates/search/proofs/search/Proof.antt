@@ -4,7 +4,7 @@ use mathlib.Core.Path.{sym, _∙_}
 use lib.ListN.{length}
 use Rattle.search.specs.Regions.{automatonOf}
 use Rattle.search.specs.Settle.{SettleAt}
-use Rattle.search.proofs.Answering.{Fits, answer-fits, searched-refused, searched-nodes}
+use Rattle.search.specs.Laws.Answers.{Fits, answer-fits, searched-refused, searched-nodes}
 use Rattle.search.proofs.Finding.{seed-room, settle-at, least-found}
 use Rattle.search.proofs.search.Statement.{statement}
 use Rattle.search.proofs.search.Tie as tie

@@ -3,7 +3,7 @@
 use mathlib.Core.Path.{sym}
 use native.Mathlib.Omega.{arith}
 use Rattle.semantics.specs.Path.{cost}
-use Rattle.search.specs.Laws.{never-completes, other-sum, same-sum}
+use Rattle.search.specs.Laws.Chains.{never-completes, other-sum, same-sum}
 use Rattle.search.proofs.places.Cost.completes_with.Statement.{statement}
 use Rattle.search.proofs.places.Cost.completes_with.Tie as tie
 

@@ -1,4 +1,5 @@
 // Runs the cases of document 01 and prints what comes out, a line each.
+mod chains;
 mod numbers;
 mod print;
 mod readings;
@@ -11,4 +12,5 @@ fn main() {
     worked::run();
     numbers::run();
     searches::run();
+    chains::run();
 }

@@ -75,15 +75,20 @@ fn shown(operation: &[u8], amount: u8, region: Region) -> Region
 }
 
 fn show(operation: &[u8], amount: usize, region: Region) {
+    print::field(operation, amount);
+    parts(region);
+    print::end_line();
+}
+
+// The whole parts, the groups and the prices.
+pub fn parts(region: Region) {
     let n = region.timers as usize;
     let whole = region.whole;
     let group = region.group;
     let prices = region.prices;
-    print::field(operation, amount);
     list(b": whole", widened(whole), n);
     list(b" groups", widened(group), n);
     list(b" prices", prices, region.top as usize + 1);
-    print::end_line();
 }
 
 fn widened(entries: [u8; Region::MOST_TIMERS]) -> [u32; Region::MOST_CORNERS] {

@@ -1,0 +1,71 @@
+-- What a chain keeps for its next step, and that a search that answers with a number of nodes had words for them.
+-- Assumes nothing.
+use mathlib.Core.Path.{_≡_, refl, sym, ap, subst}
+use mathlib.Core.Bool.{Bool, true, false, cond}
+use mathlib.Core.Option.{Option, none, some}
+use Prim.Native.Nat.{ℕ, zero, suc, _+_, _*_, _≤_}
+use native.Mathlib.Omega.{arith}
+use borrow.Author.Tests.{leb-true}
+use lib.Dec.{leb}
+use Rattle.semantics.specs.Automaton.{Automaton}
+use Rattle.semantics.specs.Region.{start}
+use Rattle.semantics.specs.Node.{nodeCount}
+use Rattle.semantics.specs.Chain.{Place, begin, step}
+use Rattle.reader.specs.declared.Table.{Table}
+use Rattle.reader.specs.Held.{IsTable}
+use Rattle.regions.specs.Nodes.{mostNodes}
+use Rattle.search.specs.declared.Searched.the-variants.{Nodes, Refused}
+use Rattle.search.specs.declared.places.Place.{Place as PlaceHeld}
+use Rattle.search.specs.declared.places.Stepped.{Stepped}
+use Rattle.search.specs.Regions.{automatonOf}
+use Rattle.search.specs.Outcome.{answered}
+use Rattle.search.specs.Places.{packPlace, viewPlace, packStep, PlaceAt, StepRoom}
+use Rattle.search.specs.Laws.{PricesBelow, start-at, step-at, step-prices, prices-room}
+
+-- The struct holds a place of the table's graph, whose prices are at most 255 for each of the n steps made.
+pub record Stands (t : Table) (n : ℕ) (s : PlaceHeld) : Type 0 where
+  pub held : PlaceAt t s
+  pub below : PricesBelow (255 * n) (viewPlace s)
+
+-- The start region has the single price 0.
+begin-prices : (a : Automaton) → PricesBelow 0 (begin a)
+unfolding start
+begin-prices a zero b = omega arith
+begin-prices a (suc j) b = omega arith
+
+module _ (t : Table) (h : IsTable t) where
+  pub stands-start : (s : PlaceHeld) → s ≡ packPlace (begin (automatonOf t)) → Stands t 0 s
+  stands-start s e =
+      let o = start-at t h in
+      subst (Stands t 0) (sym e) (record { held = o .0; below = subst (PricesBelow 0) (sym (o .1)) (begin-prices (automatonOf t)) })
+
+  -- There is room for a step.
+  pub stands-room : (s : PlaceHeld) (n : ℕ) → Stands t n s → n ≤ 5 → StepRoom s
+  stands-room s n k few = prices-room t h s (k .held) (255 * n) (k .below) (omega arith)
+
+  -- An allowed step.
+  pub stands-step :
+      (s : PlaceHeld) (n byte : ℕ) (r : Stepped) → Stands t n s → r ≡ packStep s (step (automatonOf t) byte (viewPlace s)) → r .allowed ≡ true
+      → Stands t (n + 1) (r .place)
+  stands-step s n byte r k = go (step (automatonOf t) byte (viewPlace s)) refl
+    where
+      go :
+          (o : Option Place) → step (automatonOf t) byte (viewPlace s) ≡ o → r ≡ packStep s o → r .allowed ≡ true → Stands t (n + 1) (r .place)
+      go none q e allowed = absurd (let z : _≡_ {A = ℕ} 0 1 = cc in omega arith)
+      go (some p) q e allowed =
+          let o = step-at t h s (k .held) byte p q in
+          let prices : PricesBelow (255 * (n + 1)) p =
+          λ j b. omega (arith, step-prices t h (viewPlace s) (k .held .place) (255 * n) byte p (k .below) q j b) in
+          subst (Stands t (n + 1)) (sym (ap (λ (u : Stepped). u .place) e))
+          (record { held = o .0; below = subst (PricesBelow (255 * (n + 1))) (sym (o .1)) prices })
+
+-- The answer is a number of nodes.
+pub words-lent : (a : Automaton) (lent n : ℕ) → answered a lent ≡ Nodes n → 2 * nodeCount a ≤ lent
+words-lent a lent n = go (leb (nodeCount a) mostNodes) (leb (2 * nodeCount a) lent) refl
+  where
+    go :
+        (b d : Bool) → leb (2 * nodeCount a) lent ≡ d → cond b (cond d (Nodes (nodeCount a)) (Refused 9)) (Refused 8) ≡ Nodes n
+        → 2 * nodeCount a ≤ lent
+    go true true q e = leb-true (2 * nodeCount a) lent q
+    go true false q e = absurd (let z : _≡_ {A = ℕ} 0 1 = cc in omega arith)
+    go false d q e = absurd (let z : _≡_ {A = ℕ} 0 1 = cc in omega arith)

@@ -20,7 +20,8 @@ use Rattle.search.specs.declared.places.Stepped.{Stepped}
 use Rattle.search.specs.Regions.{automatonOf}
 use Rattle.search.specs.Outcome.{answered}
 use Rattle.search.specs.Places.{packPlace, viewPlace, packStep, PlaceAt, StepRoom}
-use Rattle.search.specs.Laws.{PricesBelow, start-at, step-at, step-prices, prices-room}
+use Rattle.search.specs.Laws.Answers.{answer-fits}
+use Rattle.search.specs.Laws.Chains.{PricesBelow, start-at, step-at, step-prices, prices-room}
 
 -- The struct holds a place of the table's graph, whose prices are at most 255 for each of the n steps made.
 pub record Stands (t : Table) (n : ℕ) (s : PlaceHeld) : Type 0 where
@@ -61,11 +62,4 @@ module _ (t : Table) (h : IsTable t) where
 
 -- The answer is a number of nodes.
 pub words-lent : (a : Automaton) (lent n : ℕ) → answered a lent ≡ Nodes n → 2 * nodeCount a ≤ lent
-words-lent a lent n = go (leb (nodeCount a) mostNodes) (leb (2 * nodeCount a) lent) refl
-  where
-    go :
-        (b d : Bool) → leb (2 * nodeCount a) lent ≡ d → cond b (cond d (Nodes (nodeCount a)) (Refused 9)) (Refused 8) ≡ Nodes n
-        → 2 * nodeCount a ≤ lent
-    go true true q e = leb-true (2 * nodeCount a) lent q
-    go true false q e = absurd (let z : _≡_ {A = ℕ} 0 1 = cc in omega arith)
-    go false d q e = absurd (let z : _≡_ {A = ℕ} 0 1 = cc in omega arith)
+words-lent a lent n e = let f = answer-fits a lent n e in omega (arith, f .counted, f .room)

@@ -1,6 +1,7 @@
 // Runs the cases of document 01 and prints what comes out, a line each.
 mod chains;
 mod numbers;
+mod plans;
 mod print;
 mod readings;
 mod scripts;
@@ -13,4 +14,5 @@ fn main() {
     numbers::run();
     searches::run();
     chains::run();
+    plans::run();
 }

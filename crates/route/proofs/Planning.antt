@@ -21,7 +21,7 @@ use Rattle.reader.specs.Meaning.{automaton}
 use Rattle.reader.specs.Read.{Judgement, accepted, rejected, read}
 use Rattle.reader.specs.Held.{reading, fields, IsTable}
 use Rattle.reader.specs.Theorems.Holding.{fields-held, accepted-range}
-use Rattle.regions.specs.Nodes.{mostNodes}
+use Rattle.search.specs.Outcome.{mostNodes}
 use Rattle.search.specs.declared.Searched.{Searched}
 use Rattle.search.specs.declared.Searched.the-variants.{Nodes as Searched·Nodes, Refused as Searched·Refused}
 use Rattle.search.specs.Regions.{automatonOf}

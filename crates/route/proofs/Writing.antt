@@ -18,7 +18,7 @@ use Rattle.semantics.specs.Answers.Reading.{startCharge, startSteps, CanComplet
 use Rattle.reader.specs.declared.Table.{Table}
 use Rattle.reader.specs.Fields.{mostPrice}
 use Rattle.reader.specs.Theorems.Access.{table-proper}
-use Rattle.regions.specs.Nodes.{mostNodes}
+use Rattle.search.specs.Outcome.{mostNodes}
 use Rattle.search.specs.declared.places.Place.{Place as PlaceHeld}
 use Rattle.search.specs.Regions.{automatonOf}
 use Rattle.search.specs.Places.{packPlace, viewPlace, PlaceAt}

@@ -13,7 +13,7 @@ use Rattle.semantics.specs.Answer.{route, answer}
 use Rattle.semantics.specs.Answers.Reading.{startCharge, startSteps, CanComplete, Chosen}
 use Rattle.reader.specs.declared.Table.{Table}
 use Rattle.reader.specs.Held.{IsTable}
-use Rattle.regions.specs.Nodes.{mostNodes}
+use Rattle.search.specs.Outcome.{mostNodes}
 use Rattle.search.specs.declared.places.Place.{Place as PlaceHeld}
 use Rattle.search.specs.Regions.{automatonOf, graphOf}
 use Rattle.search.specs.Places.{viewPlace, PlaceAt, StepRoom}

@@ -21,7 +21,7 @@ use Rattle.reader.specs.Meaning.{automaton}
 use Rattle.reader.specs.Read.{Judgement, accepted, rejected, read}
 use Rattle.reader.specs.Theorems.Proper.{accepted-proper}
 use Rattle.reader.specs.Theorems.Refusals.{rejected-range}
-use Rattle.regions.specs.Nodes.{mostNodes}
+use Rattle.search.specs.Outcome.{mostNodes}
 use Rattle.search.specs.declared.Searched.the-variants.{Nodes as Searched·Nodes, Refused as Searched·Refused}
 use Rattle.search.specs.Outcome.{answered, cleared}
 use Rattle.route.specs.declared.Answer.the-variants.{Refused, NoRoute, Route}

@@ -12,7 +12,7 @@ use Rattle.semantics.specs.Demand.{AtLeast, Approached, NoRun}
 use Rattle.reader.specs.Fields.{Fields}
 use Rattle.reader.specs.Meaning.{automaton}
 use Rattle.reader.specs.Read.{accepted, read}
-use Rattle.regions.specs.Nodes.{mostNodes}
+use Rattle.search.specs.Outcome.{mostNodes}
 use Rattle.route.specs.declared.Answer.{Answer}
 use Rattle.route.specs.declared.Answer.the-variants.{Refused, NoRoute, Route}
 

@@ -9,7 +9,7 @@ use Rattle.semantics.specs.Automaton.{Automaton}
 use Rattle.semantics.specs.Node.{nodeCount}
 use Rattle.semantics.specs.Distance.{distanceWords}
 use Rattle.semantics.specs.CornerGraph.{cornerGraph}
-use Rattle.regions.specs.Nodes.{mostNodes}
+pub use Rattle.regions.specs.Nodes.{mostNodes}
 use Rattle.search.specs.declared.Searched.{Searched}
 use Rattle.search.specs.declared.Searched.the-variants.{Nodes, Refused}
 

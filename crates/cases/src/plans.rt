@@ -28,7 +28,7 @@ fn plan_case(name: &[u8], bytes: &[u8], words: usize, route: usize, cleared: usi
     print::text(name);
     print::end_line();
     let mut text = [0u8; 1100];
-    let length = report::write_lines(answer, &lent_route, &mut text);
+    let length = report::lines(answer, &lent_route, &mut text);
     io::write_all(STDOUT_FILENO, &text[..length]);
     let filled = steps(answer);
     let start = words_are(&lent_words, 0, cleared, 0);

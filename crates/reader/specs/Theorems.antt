@@ -7,6 +7,7 @@ pub mod Accepts
 pub mod Refusals
 pub mod Rows
 pub mod Limits
+pub mod Longer
 pub mod Proper
 pub mod Holding
 pub mod Access

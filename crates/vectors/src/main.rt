@@ -27,6 +27,6 @@ fn one(table: &[u8]) {
     let mut route = [0u8; 256];
     let answer = route::plan(table, &mut words, &mut route);
     let mut text = [0u8; 1100];
-    let length = report::write_lines(answer, &route, &mut text);
+    let length = report::lines(answer, &route, &mut text);
     io::write_all(STDOUT_FILENO, &text[..length]);
 }

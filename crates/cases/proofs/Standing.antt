@@ -1,20 +1,17 @@
 -- What a chain keeps for its next step, and that a search that answers with a number of nodes had words for them.
 -- Assumes nothing.
 use mathlib.Core.Path.{_≡_, refl, sym, ap, subst}
-use mathlib.Core.Bool.{Bool, true, false, cond}
+use mathlib.Core.Bool.{true}
 use mathlib.Core.Option.{Option, none, some}
 use Prim.Native.Nat.{ℕ, zero, suc, _+_, _*_, _≤_}
 use native.Mathlib.Omega.{arith}
-use borrow.Author.Tests.{leb-true}
-use lib.Dec.{leb}
 use Rattle.semantics.specs.Automaton.{Automaton}
 use Rattle.semantics.specs.Region.{start}
 use Rattle.semantics.specs.Node.{nodeCount}
 use Rattle.semantics.specs.Chain.{Place, begin, step}
 use Rattle.reader.specs.declared.Table.{Table}
 use Rattle.reader.specs.Held.{IsTable}
-use Rattle.regions.specs.Nodes.{mostNodes}
-use Rattle.search.specs.declared.Searched.the-variants.{Nodes, Refused}
+use Rattle.search.specs.declared.Searched.the-variants.{Nodes}
 use Rattle.search.specs.declared.places.Place.{Place as PlaceHeld}
 use Rattle.search.specs.declared.places.Stepped.{Stepped}
 use Rattle.search.specs.Regions.{automatonOf}

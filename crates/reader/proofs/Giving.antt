@@ -4,12 +4,12 @@ use Prim.Native.Nat.{ℕ, _+_, _/_, _%_, _^_, _≤_, _<_}
 use native.Mathlib.Nat.{div-one}
 use native.Mathlib.Omega.{arith}
 use mathlib.Core.Path.{_≡_, refl, sym, ap, _∙_}
-use mathlib.Core.Bool.{Bool, true, false, cond, _&&_}
+use mathlib.Core.Bool.{true, cond, _&&_}
 use mathlib.Core.List.{List}
 use borrow.Author.Tests.{le-leb, lt-leb, eq-eqb, ne-eqb, le-ltb, lt-ltb}
-use lib.Dec.{leb, eqb}
+use lib.Dec.{eqb}
 use lib.ListN.{length, getD, drop}
-use Rattle.reader.specs.Parser.{Parser, done, refuse, byte, _>>=_, Outcome, refused, took, run}
+use Rattle.reader.specs.Parser.{Parser, done, refuse, _>>=_, Outcome, refused, took, run}
 use Rattle.reader.specs.Format.{within, amount, present, bitMap}
 use Rattle.reader.specs.Step.{Gives, refuses, gives}
 use Rattle.reader.specs.Theorems.Running.{run-bind, run-byte, run-none, andThen}

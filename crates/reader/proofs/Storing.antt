@@ -1,12 +1,11 @@
 -- The arrays that hold mode and move records, as one more record is stored.
 -- Assumes nothing.
-use Prim.Native.Nat.{ℕ, suc, _+_, _*_, _-_, _^_, _≤_, _<_}
-use native.Mathlib.Nat.{mul-suc}
+use Prim.Native.Nat.{ℕ, _+_, _*_, _-_, _^_, _≤_, _<_}
 use native.Mathlib.Omega.{arith}
 use mathlib.Core.Path.{_≡_, refl, sym, ap, ap₂, _∙_}
 use mathlib.Core.List.{List, [], _∷_, _++_, map, append-assoc, append-nil}
 use lib.ListN.{length, length-append, length-map, take, drop, set}
-use lib.Seq.{paste, sets, sets-eq, take-length}
+use lib.Seq.{paste, sets-eq, take-length}
 use Rattle.reader.specs.Parser.{Parser, Outcome, took, run}
 use Rattle.reader.specs.Fields.{ModeFields, MoveFields}
 use Rattle.reader.specs.Format.{bitMap, amount, conditions, within, ifStands, stands, modeRecord, moveRecord}

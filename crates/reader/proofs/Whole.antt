@@ -1,21 +1,21 @@
 -- The whole table: what the parts give together.
 -- Assumes nothing.
-use Prim.Native.Nat.{ℕ, zero, suc, _*_, _≤_, _<_}
+use Prim.Native.Nat.{ℕ, zero, suc, _≤_, _<_}
 use native.Mathlib.Omega.{arith}
-use mathlib.Core.Path.{_≡_, refl, sym, ap, ap₂, _∙_}
-use mathlib.Core.Bool.{Bool, true, false, cond}
-use mathlib.Core.List.{List, [], _∷_, _++_, map, append-assoc}
-use lib.ListN.{length, getD, take, drop, replicate, drop-of-length-le}
+use mathlib.Core.Path.{_≡_, refl, sym, ap, _∙_}
+use mathlib.Core.Bool.{true, false}
+use mathlib.Core.List.{List, [], _∷_, map, append-assoc}
+use lib.ListN.{length, getD, take, drop, drop-of-length-le}
 use lib.Seq.{take-at, drop-cons}
 use Rattle.semantics.specs.Condition.{holdAtZero}
 use Rattle.semantics.specs.Automaton.{startHolds}
-use Rattle.reader.specs.Parser.{Parser, inOrder, Outcome, refused, took, run}
-use Rattle.reader.specs.Fields.{ModeFields, MoveFields, Fields}
+use Rattle.reader.specs.Parser.{inOrder, took, run}
+use Rattle.reader.specs.Fields.{ModeFields, Fields}
 use Rattle.reader.specs.Format.{within, modeRecord, moveRecord, header, table}
 use Rattle.reader.specs.Meaning.{conditionsFrom, modeOf, automaton}
-use Rattle.reader.specs.Read.{Judgement, accepted, rejected, judge, read}
+use Rattle.reader.specs.Read.{rejected, read}
 use Rattle.reader.specs.Held.{pad, flat, held, reading}
-use Rattle.reader.specs.Step.{Gives, refuses, gives, GivesHeader, GivesCeilings, GivesModes, GivesMoves, HoldModes, HoldMoves, headerOf}
+use Rattle.reader.specs.Step.{Gives, refuses, gives, GivesHeader, GivesCeilings, GivesModes, GivesMoves, HoldModes, HoldMoves}
 use Rattle.reader.specs.declared.records.HeaderRead.{HeaderRead}
 use Rattle.reader.specs.declared.records.CeilingsRead.{CeilingsRead}
 use Rattle.reader.specs.declared.records.Modes.{Modes}

@@ -6,11 +6,11 @@ use native.Mathlib.Omega.{arith}
 use native.Mathlib.Decide.{ℕ-discrete}
 use mathlib.Core.Path.{_≡_, refl, sym, ap, _∙_}
 use mathlib.Core.Bool.{Bool, true, false, cond, _&&_, and-true, and-false}
-use mathlib.Core.List.{List, [], _∷_, _++_}
+use mathlib.Core.List.{List, [], _∷_}
 use borrow.Author.Tests.{eq-eqb, ne-eqb, lt-ltb, le-ltb, le-leb, lt-leb}
-use lib.Dec.{eqb, leb, ltb}
+use lib.Dec.{eqb, ltb}
 use lib.ListN.{length, getD, take, List·getD-eq-default}
-use Rattle.semantics.specs.Condition.{Comparison, greater, compares, holdAtZero}
+use Rattle.semantics.specs.Condition.{greater, compares, holdAtZero}
 use Rattle.reader.specs.Meaning.{comparisons, comparisonOf, conditionsFrom}
 
 -- A condition byte, or 0 for none, holds at 0.

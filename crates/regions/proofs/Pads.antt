@@ -8,7 +8,7 @@ use native.Mathlib.Nat.{le-of-suc-le-suc, not-suc-le-zero}
 use native.Mathlib.Omega.{arith}
 use borrow.Author.Tests.{ne-eqb}
 use lib.Dec.{eqb}
-use lib.ListN.{length, drop, set, replicate, length-append, length-map, length-set, length-replicate, replicate-append-replicate}
+use lib.ListN.{length, drop, set, replicate, length-append, length-map, length-set, replicate-append-replicate}
 use lib.Seq.{take-at, drop-at, set-append-left, set-at}
 use Rattle.semantics.specs.Region.{risen, merge}
 use Rattle.semantics.specs.Regions.Lengths.{length-risen, length-merge}

@@ -1,9 +1,8 @@
 -- How the structs `Region` and `CornerAt` hold a priced region and a corner, and the bounds within which no number overflows.
 -- Assumes nothing.
 use mathlib.Core.Path.{_≡_}
-use mathlib.Core.List.{List, [], _∷_, _++_}
-use Prim.Native.Nat.{ℕ, suc, _+_, _-_, _≤_, _<_, _^_}
-use lib.ListN.{length, getD, take, replicate}
+use Prim.Native.Nat.{ℕ, suc, _+_, _≤_, _<_, _^_}
+use lib.ListN.{length, getD, take}
 use Rattle.semantics.specs.Region.{PricedRegion, WellFormed, top}
 use Rattle.semantics.specs.Corner.{Corner}
 pub use Rattle.semantics.specs.CornerGraph.{highest}

@@ -1,27 +1,31 @@
 -- The graph of a table that is searched, and the corners of a region as its nodes.
 -- Assumes nothing.
-use mathlib.Core.Path.{_≡_, refl, ap, _∙_, sym}
+use mathlib.Core.Path.{_≡_, ap, _∙_, sym}
 use mathlib.Core.Bool.{Bool}
 use mathlib.Core.List.{List}
 use Prim.Native.Nat.{ℕ, zero, suc, _+_, _≤_, _<_}
+use native.Mathlib.Decide.{decLt}
 use native.Mathlib.Omega.{arith}
-use lib.ListN.{length, getD}
+use lib.ListN.{length, getD, List·getD-eq-default}
 use Rattle.semantics.specs.Automaton.{Proper}
-use Rattle.semantics.specs.Region.{PricedRegion, top}
+use Rattle.semantics.specs.Region.{top}
 use Rattle.semantics.specs.Corner.{countFrom}
 use Rattle.semantics.specs.Node.{nodeCount}
+use Rattle.semantics.specs.Chain.{Place}
 use Rattle.semantics.specs.CornerGraph.{numberOf, PricesWithin}
-use Rattle.semantics.specs.Bounds.Prices.{price}
-use Rattle.semantics.specs.Answers.Places.{corner-top, number-below}
+use Rattle.semantics.specs.Answers.Places.{IsPlace, corner-top, number-below}
 use Rattle.semantics.specs.Answers.Graph.{graph-nodes, graph-closed, graph-weights}
 use Rattle.semantics.specs.Answers.Moving.{number-row}
 use Rattle.semantics.specs.Answers.Waiting.{Indexed}
 use Rattle.semantics.specs.Paths.Update.{Update}
 use Rattle.reader.specs.declared.Table.{Table}
-use Rattle.reader.specs.Theorems.Access.{table-proper, amounts-within}
+use Rattle.reader.specs.Held.{IsTable}
+use Rattle.reader.specs.Theorems.Access.{getD-all, table-proper, amounts-within}
 use Rattle.regions.specs.declared.Region.{Region}
-use Rattle.regions.specs.Held.{view}
+use Rattle.regions.specs.Held.{view, WholeRoom}
+use Rattle.regions.specs.Nodes.{CeilingsFew, Padded}
 use Rattle.regions.specs.Laws.Fields.{holds, top-is}
+use Rattle.regions.specs.Laws.Nodes.{table-padded, table-few}
 use Rattle.search.specs.Edges.{mostWeight, Searchable}
 use Rattle.search.specs.Regions.{automatonOf, graphOf, Searching, placeOf, RegionAt}
 
@@ -45,6 +49,24 @@ module _ {t : Table} {l nodes : ℕ} {ceilings ws : List ℕ} (s : Searching t l
   pub searching-again : {lo hi : ℕ} {ws′ : List ℕ} {b : Bool} → Update (graphOf t l) lo hi ws ws′ b → Searching t l nodes ceilings ws′
   searching-again u =
       record { is-table = s .is-table; counted = s .counted; few = s .few; ceilings-are = s .ceilings-are; sound = u .sound }
+
+  -- What `regions` asks of the ceilings.
+  pub searching-few : CeilingsFew ceilings
+  searching-few = rw (s .ceilings-are) (table-few t (s .is-table))
+
+  pub searching-padded : (n : ℕ) → n ≡ t .timers → Padded n ceilings
+  searching-padded n e = rw (e, s .ceilings-are) (table-padded t (s .is-table))
+
+-- The whole parts of a place are at most the ceilings, so that they have room.
+pub place-whole-room : (t : Table) → IsTable t → (p : Place) → IsPlace (automatonOf t) p → WholeRoom (p .region)
+place-whole-room t h p place i = go (decLt i (length (automatonOf t .ceilings)))
+  where
+    few : getD (automatonOf t .ceilings) i 0 ≤ 15
+    few = getD-all (λ c. c ≤ 15) (automatonOf t .ceilings) (λ c m. h .range .ceilings-range c m .1) (omega arith) i
+
+    go : Dec (i < length (automatonOf t .ceilings)) → getD (p .region .whole) i 0 < 255
+    go (yes b) = omega (arith, place .cell .below i b, few)
+    go (no b) = omega (arith, List·getD-eq-default (p .region .whole) 0 {n = i} (omega (arith, place .cell .sized)))
 
 -- The prices of a region that are a count are the indices of its corners.
 count-index : (i n j : ℕ) → j < n → getD (countFrom i n) j 0 ≡ i + j

@@ -18,15 +18,15 @@ use Rattle.reader.specs.Theorems.Access.{counts, timer-count, mode-count, ceili
 use Rattle.regions.specs.Held.{mostTimers, pad}
 use Rattle.regions.specs.Nodes.{CeilingsFew, Padded}
 use Rattle.regions.specs.Laws.Pads.{take-pad}
-use Rattle.regions.specs.Laws.Nodes.{corners-few, count-padded, at-padded, table-padded, table-few}
+use Rattle.regions.specs.Laws.Nodes.{corners-few, count-padded, at-padded}
 use Rattle.search.specs.Regions.{automatonOf, graphOf, share, Handed, CellAt, CellReady, CellSwept, ModeAt}
-use Rattle.search.proofs.Graphs.{searching-proper}
+use Rattle.search.proofs.Graphs.{searching-proper, searching-few, searching-padded}
 use Rattle.search.proofs.CellSweep.{handed-again, cell-fits}
 
 module _ {t : Table} {l nodes mode timers rate : ℕ} {ceilings own targets prices guards resets invariants ws : List ℕ}
     (here : ModeAt t mode timers) (handed : Handed t l nodes mode ceilings rate own targets prices guards resets invariants ws) where
   pub ceilings-few : CeilingsFew ceilings
-  ceilings-few = subst CeilingsFew (sym (handed .searching .ceilings-are)) (table-few t (handed .searching .is-table))
+  ceilings-few = searching-few (handed .searching)
 
   pub timers-few : (0 < timers) × (timers ≤ 3)
   timers-few = omega (arith, here .timers-are, counts t (handed .searching .is-table))
@@ -38,9 +38,7 @@ module _ {t : Table} {l nodes mode timers rate : ℕ} {ceilings own targets pric
       ∙ sym (ceilings-are t (handed .searching .is-table))
 
   padded : Padded timers ceilings
-  padded =
-      handed .searching .ceilings-are ∙ table-padded t (handed .searching .is-table)
-      ∙ ap₂ (λ (n : ℕ) (c : List ℕ). pad mostTimers (take n c)) (sym (here .timers-are)) (sym (handed .searching .ceilings-are))
+  padded = searching-padded (handed .searching) timers (here .timers-are)
 
   count-is : cellCount ceilings ≡ cellCount (automatonOf t .ceilings)
   count-is = count-padded timers ceilings padded ∙ ap cellCount front

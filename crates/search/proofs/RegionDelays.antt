@@ -28,10 +28,9 @@ use Rattle.regions.specs.declared.Region.{Region}
 use Rattle.regions.specs.Held.{view}
 use Rattle.regions.specs.Nodes.{mostModes, CeilingsFew, Padded}
 use Rattle.regions.specs.Laws.Fields.{holds, top-is, price-at, top-few}
-use Rattle.regions.specs.Laws.Nodes.{table-few, table-padded}
 use Rattle.search.specs.Edges.{edgeTo, delayWeight, DelayAt, DelayDone}
 use Rattle.search.specs.Regions.{automatonOf, graphOf, placeOf, RegionAt, WaitsAt, DelaysAt, DelaysDone}
-use Rattle.search.proofs.Graphs.{searchable, searching-proper, region-top, region-indexed, corner-number, corner-below}
+use Rattle.search.proofs.Graphs.{searchable, searching-proper, region-top, region-indexed, corner-number, corner-below, searching-few, searching-padded}
 
 -- An edge of a corner by the number of the corner in the graph.
 pub corner-leaves :
@@ -103,10 +102,10 @@ module _ {t : Table} {l : ℕ} {region : Region} {nodes from mode over : ℕ} {d
       )
 
   pub ceilings-few : CeilingsFew ceilings
-  ceilings-few = rw (d .waits .searching .ceilings-are) (table-few t (d .waits .searching .is-table))
+  ceilings-few = searching-few (d .waits .searching)
 
   pub ceilings-padded : Padded (delayed .timers) ceilings
-  ceilings-padded = rw (d .timers-are, d .waits .searching .ceilings-are) (table-padded t (d .waits .searching .is-table))
+  ceilings-padded = searching-padded (d .waits .searching) (delayed .timers) (d .timers-are)
 
   -- Where there is no edge of a delay, nothing is to be done.
   delays-none :

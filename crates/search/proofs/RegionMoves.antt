@@ -21,10 +21,9 @@ use Rattle.regions.specs.Held.{view, pack, Valid}
 use Rattle.regions.specs.Nodes.{mostModes, CeilingsFew, Padded}
 use Rattle.regions.specs.Laws.Fields.{holds, top-few}
 use Rattle.regions.specs.Laws.Chain.{Gives, resetAll-gives}
-use Rattle.regions.specs.Laws.Nodes.{table-few, table-padded}
 use Rattle.search.specs.Edges.{edgeTo, MoveAt, MoveDone}
 use Rattle.search.specs.Regions.{graphOf, MovesAt, MovesDone}
-use Rattle.search.proofs.Graphs.{searchable, corner-below}
+use Rattle.search.proofs.Graphs.{searchable, corner-below, searching-few, searching-padded}
 use Rattle.search.proofs.OwnMoves.{EdgeOf, guard-fails, target-fails, after-first, move-leaves, move-only}
 
 -- What is read for the move e, and of its target.
@@ -101,10 +100,10 @@ module _ {t : Table} {l mode nodes from : ℕ} {region : Region} {ceilings own t
       moved-valid = gives .valid
 
       pub moved-few : CeilingsFew ceilings
-      moved-few = rw (m .searching .ceilings-are) (table-few t is)
+      moved-few = searching-few (m .searching)
 
       pub moved-padded : Padded (moved .timers) ceilings
-      moved-padded = rw (m .searching .ceilings-are, gives .timers, m .at-region .timers-are) (table-padded t is)
+      moved-padded = searching-padded (m .searching) (moved .timers) (gives .timers ∙ m .at-region .timers-are)
 
     module _ (ws′ : List ℕ) (a : Bool) (before : MovedOver t l from region own k ws ws′ a) where
       -- A move with no edges.

@@ -8,7 +8,7 @@ use mathlib.Core.List.{List}
 use Prim.Native.Nat.{ℕ, suc, _+_, _≤_, _<_}
 use native.Mathlib.Decide.{decLt}
 use native.Mathlib.Omega.{arith}
-use lib.ListN.{length, getD, List·getD-eq-default}
+use lib.ListN.{getD, List·getD-eq-default}
 use Rattle.semantics.specs.Automaton.{Automaton}
 use Rattle.semantics.specs.Region.{top, noZero, delay}
 use Rattle.semantics.specs.Path.{Edge, Leaves, Relaxed, table}
@@ -20,15 +20,13 @@ use Rattle.semantics.specs.Answers.WaitingNodes.{empty-fewer, edge-linger, ling
 use Rattle.semantics.specs.Paths.Sound.{relaxed-loop}
 use Rattle.semantics.specs.Paths.Update.{Update, Relaxes, update-wider, update-then, relaxed-outside}
 use Rattle.reader.specs.declared.Table.{Table}
-use Rattle.reader.specs.Held.{fields}
-use Rattle.reader.specs.Theorems.Access.{getD-all}
 use Rattle.regions.specs.declared.Region.{Region}
 use Rattle.regions.specs.Held.{pack, view, PriceRoom, WholeRoom}
 use Rattle.regions.specs.Laws.Fields.{holds, top-is, top-few, prices-many}
 use Rattle.regions.specs.Laws.Chain.{Gives, delay-gives}
 use Rattle.search.specs.Edges.{EdgeAt}
 use Rattle.search.specs.Regions.{automatonOf, graphOf, placeOf, WaitsAt, WaitsDone, DelaysAt, DelaysDone}
-use Rattle.search.proofs.Graphs.{searchable, region-top, region-indexed, corner-number, corner-below}
+use Rattle.search.proofs.Graphs.{searchable, region-top, region-indexed, corner-number, corner-below, place-whole-room}
 use Rattle.search.proofs.RegionDelays.{corner-leaves, corner-delay, delay-outside}
 
 module _ {t : Table} {l nodes from mode : ℕ} {region : Region} {ceilings : List ℕ} {rate : ℕ} {invariants ws : List ℕ}
@@ -58,14 +56,7 @@ module _ {t : Table} {l nodes from mode : ℕ} {region : Region} {ceilings : Lis
           )
 
   pub whole-room : WholeRoom (view region)
-  whole-room i = go (decLt i (length (a .ceilings)))
-    where
-      few : getD (a .ceilings) i 0 ≤ 15
-      few = getD-all (λ c. c ≤ 15) (fields t .ceilings) (λ c m. w .searching .is-table .range .ceilings-range c m .1) (omega arith) i
-
-      go : Dec (i < length (a .ceilings)) → getD (view region .whole) i 0 < 255
-      go (yes there) = omega (arith, here .cell .below i there, few)
-      go (no past) = omega (arith, List·getD-eq-default (view region .whole) 0 {n = i} (omega (arith, here .cell .sized)))
+  whole-room = place-whole-room t (w .searching .is-table) p here
 
   -- The numbers of the corners are below 65,536, as all are.
   pub last-corner : from + region .top < 65536

@@ -5,11 +5,10 @@ use mathlib.Core.Bool.{true, false, _&&_}
 use mathlib.Core.List.{List}
 use mathlib.Core.Option.{Option, none, some}
 use Prim.Native.Nat.{ℕ, _+_, _*_, _≤_, _<_}
-use native.Mathlib.Decide.{decLt}
 use native.Mathlib.Omega.{arith}
 use borrow.Author.Tests.{lt-ltb, le-ltb, ne-eqb}
 use lib.Dec.{eqb}
-use lib.ListN.{length, getD, take, drop, List·getD-eq-default}
+use lib.ListN.{length, getD, take, drop}
 use Rattle.semantics.specs.Condition.{Condition}
 use Rattle.semantics.specs.Automaton.{Automaton}
 use Rattle.semantics.specs.Region.{PricedRegion, delay, linger, resetAll, charge, meetsAll, within}
@@ -17,7 +16,7 @@ use Rattle.semantics.specs.Chain.{Place, onlyIf, delayStep, lingerStep, moveSte
 use Rattle.reader.specs.declared.Table.{Table}
 use Rattle.reader.specs.Meaning.{namedTimers, conditionsFrom}
 use Rattle.reader.specs.Held.{IsTable}
-use Rattle.reader.specs.Theorems.Access.{getD-all, counts, lengths, mode-count, timer-count, move-count, mode-at, move-at}
+use Rattle.reader.specs.Theorems.Access.{counts, lengths, mode-count, timer-count, move-count, mode-at, move-at}
 use Rattle.reader.specs.Theorems.Access.{rate-within, price-within, target-below, ceilings-are}
 use Rattle.regions.specs.declared.Region.{Region}
 use Rattle.regions.specs.Held.{pack, view, Valid, PriceRoom, WholeRoom}
@@ -28,6 +27,7 @@ use Rattle.regions.specs.Laws.Fields.{holds, timers-is}
 use Rattle.regions.specs.Laws.Nodes.{table-padded}
 use Rattle.search.specs.declared.places.Place.{Place as PlaceHeld}
 use Rattle.search.specs.Regions.{automatonOf}
+use Rattle.search.proofs.Graphs.{place-whole-room}
 use Rattle.search.specs.Places.{viewPlace, packStep, PlaceAt, StepRoom}
 
 -- The conditions of a row.
@@ -64,13 +64,7 @@ module _ (t : Table) (h : IsTable t) (s : PlaceHeld) (p : PlaceAt t s) where
 
   -- Whole parts are at most their ceilings, so that they have room.
   pub whole-room : WholeRoom (view (s .region))
-  whole-room i = go (decLt i (length (automatonOf t .ceilings)))
-    where
-      go : Dec (i < length (automatonOf t .ceilings)) → getD (view (s .region) .whole) i 0 < 255
-      go (yes b) =
-          let few = getD-all (λ c. c ≤ 15) (automatonOf t .ceilings) (λ c m. h .range .ceilings-range c m .1) (omega arith) i in
-          omega (arith, p .place .cell .below i b, few)
-      go (no b) = omega (arith, List·getD-eq-default (view (s .region) .whole) 0 {n = i} (omega (arith, p .place .cell .sized)))
+  whole-room = place-whole-room t h (viewPlace s) (p .place)
 
   -- Prices have room for the rate.
   pub rate-room : StepRoom s → PriceRoom (getD (t .rates) (s .mode) 0) (view (s .region))

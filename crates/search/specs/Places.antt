@@ -1,8 +1,7 @@
 -- How the structs `Place`, `Stepped` and `Cost` hold the place of a chain, what a step leads to and what the words say of a corner; and the test of the
 -- greedy rule.
 -- Assumes nothing.
-use mathlib.Core.Path.{_≡_}
-use mathlib.Core.Bool.{Bool, true, false, cond, _&&_, _||_, not}
+use mathlib.Core.Bool.{Bool, true, false, _&&_, _||_, not}
 use mathlib.Core.List.{List, [], _∷_}
 use mathlib.Core.Option.{Option, none, some}
 use Prim.Native.Nat.{ℕ, _+_, _≤_}

@@ -3,11 +3,11 @@
 -- Assumes nothing.
 use mathlib.Core.Path.{_≡_}
 use mathlib.Core.Bool.{Bool}
-use mathlib.Core.List.{List, []}
+use mathlib.Core.List.{List}
 use Prim.Native.Nat.{ℕ, suc, _+_, _*_, _≤_, _<_}
 use lib.ListN.{length, getD, take}
 use Rattle.semantics.specs.Automaton.{Automaton, timers, modeAt}
-use Rattle.semantics.specs.Region.{PricedRegion, delay}
+use Rattle.semantics.specs.Region.{delay}
 use Rattle.semantics.specs.Corner.{cornerCount, countFrom}
 use Rattle.semantics.specs.Path.{Edge, Graph, Leaves, Relaxed, table}
 use Rattle.semantics.specs.Node.{IsCell, cellCount, cellNumber, nodeCount}

@@ -6,7 +6,7 @@ use mathlib.Core.List.{List, [], _∷_}
 use mathlib.Core.Option.{Option, none, some}
 use lib.Dec.{ltb, eqb}
 use lib.ListN.{length}
-use Rattle.semantics.specs.Automaton.{Mode, Move, Automaton, timers, modeAt, moveAt}
+use Rattle.semantics.specs.Automaton.{Automaton, timers, modeAt, moveAt}
 use Rattle.semantics.specs.Region.{PricedRegion, start, delay, linger, resetAll, charge, meetsAll, within}
 
 -- Where a chain stands: a mode and a priced region.

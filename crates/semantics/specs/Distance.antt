@@ -1,10 +1,9 @@
 -- The least cost from a node into the targets, as a function: what the words of a search are to hold.
 -- Assumes nothing.
 use mathlib.Core.Bool.{Bool, true, false, cond}
-use mathlib.Core.List.{List, [], _∷_, map}
+use mathlib.Core.List.{List, [], _∷_}
 use Prim.Native.Nat.{ℕ, zero, suc, pred}
-use lib.Dec.{ltb, leb, eqb}
-use lib.ListN.{getD}
+use lib.Dec.{ltb, eqb}
 use Rattle.semantics.specs.Corner.{countFrom, flatMap}
 use Rattle.semantics.specs.Path.{Edge, Graph, Cost, cost, Entry, unreached, reached, along, infinity}
 

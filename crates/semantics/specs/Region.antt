@@ -1,7 +1,7 @@
 -- Priced regions of any number of timers: document 01, "Priced regions" (source document 001, definitions 3 to 8).
 -- Assumes nothing.
 use mathlib.Core.Path.{_≡_}
-use mathlib.Core.Bool.{Bool, true, false, cond, _&&_}
+use mathlib.Core.Bool.{Bool, true, cond, _&&_}
 use mathlib.Core.List.{List, [], _∷_, _++_, map}
 use Prim.Native.Nat.{ℕ, zero, suc, pred, _+_, _-_, _<_, min}
 use lib.Dec.{leb, ltb, eqb}

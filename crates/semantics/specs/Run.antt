@@ -8,7 +8,7 @@ use mathlib.Core.List.{List, [], _∷_, List·Memᴰ}
 use lib.Dec.{eqb}
 use lib.ListN.{length, getD}
 use Rattle.semantics.specs.Condition.{Condition, Holds}
-use Rattle.semantics.specs.Automaton.{Mode, Move, Automaton, timers, modeAt, moveAt}
+use Rattle.semantics.specs.Automaton.{Automaton, modeAt, moveAt}
 
 -- "A state is a mode and a value from 0 for each timer": the value of timer x in q-ths of a minute.
 pub record State : Type 0 where

@@ -1,22 +1,22 @@
 -- The reading function accepts bytes exactly if they are a layout of some fields and mode 0's conditions hold at zero, and these are then the
 -- fields read.
 -- Assumes nothing.
-use Prim.Native.Nat.{ℕ, zero, suc, _-_, _≤_, _<_}
+use Prim.Native.Nat.{ℕ, suc, _-_, _≤_, _<_}
 use native.Mathlib.Omega.{arith}
 use mathlib.Core.Path.{_≡_, refl, sym, ap, _∙_}
 use mathlib.Core.Logic.{_↔_, inl, inr}
 use mathlib.Core.Bool.{Bool, true, false, cond}
-use mathlib.Core.List.{List, [], _∷_, _++_, append-nil, List·Memᴰ, List·Memᴰ·cases-cons, List·Memᴰ·not-nil}
+use mathlib.Core.List.{List, [], _∷_, _++_, List·Memᴰ, List·Memᴰ·cases-cons, List·Memᴰ·not-nil}
 use lib.ListN.{length}
 use Rattle.semantics.specs.Automaton.{startHolds}
-use Rattle.reader.specs.Parser.{Parser, inOrder, Outcome, refused, took, run}
-use Rattle.reader.specs.Fields.{ModeFields, MoveFields, Fields}
-use Rattle.reader.specs.Format.{within, modeRecord, moveRecord, Header, header, table}
+use Rattle.reader.specs.Parser.{Outcome, refused, took, run}
+use Rattle.reader.specs.Fields.{Fields}
+use Rattle.reader.specs.Format.{Header, header, table}
 use Rattle.reader.specs.Layout.{InRow, none, more, ModeLayout, MoveLayout, Layout}
 use Rattle.reader.specs.Meaning.{automaton}
-use Rattle.reader.specs.Read.{Judgement, accepted, rejected, judge, read}
+use Rattle.reader.specs.Read.{accepted, rejected, judge, read}
 use Rattle.reader.specs.Theorems.Running.{took-same}
-use Rattle.reader.specs.Theorems.Exactly.{Exactly, Both, both, both-given, One, Row, reworded, within-exactly, order-exactly, Made, made, false-true}
+use Rattle.reader.specs.Theorems.Exactly.{Exactly, Both, both, both-given, One, Row, reworded, within-exactly, order-exactly, Made, made}
 use Rattle.reader.specs.Theorems.RecordLayouts.{mode-exactly, move-exactly}
 
 -- The first four bytes.

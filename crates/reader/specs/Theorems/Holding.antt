@@ -1,17 +1,16 @@
 -- The struct of an accepted table is a table, and holds the fields that were read.
 -- Assumes nothing.
-use Prim.Native.Nat.{ℕ, zero, suc, _≤_, _<_}
+use Prim.Native.Nat.{ℕ, _<_}
 use native.Mathlib.Omega.{arith}
 use mathlib.Core.Path.{_≡_, refl, sym, ap, ap₂, subst, _∙_}
 use mathlib.Core.List.{List, [], _∷_, _++_, map, append-assoc, List·Memᴰ}
-use lib.ListN.{length, getD, take, drop, length-map}
+use lib.ListN.{length, getD, take, drop}
 use lib.Seq.{take-at, drop-at, take-append-seam}
 use Rattle.reader.specs.declared.Reading.{Reading}
 use Rattle.reader.specs.declared.Verdict.the-variants.{Accepted}
 use Rattle.reader.specs.Fields.{ModeFields, MoveFields, Fields}
-use Rattle.reader.specs.Layout.{InRow, ModeLayout, MoveLayout, Layout}
 use Rattle.reader.specs.Read.{Judgement, accepted, rejected, read}
-use Rattle.reader.specs.Held.{pad, flat, held, reading, fields, modesFrom, movesFrom, InRange, IsTable}
+use Rattle.reader.specs.Held.{flat, held, reading, fields, modesFrom, movesFrom, InRange, IsTable}
 use Rattle.reader.specs.Theorems.Accepts.{accepts}
 use Rattle.reader.specs.Theorems.Limits.{accepted-bounded}
 use Rattle.reader.specs.Theorems.Rows.{row-all}

@@ -1,21 +1,20 @@
 -- The automaton of a table is proper: whatever it names is there.
 -- Assumes nothing.
-use Prim.Native.Nat.{ℕ, zero, suc, _+_, _-_, _/_, _%_, _^_, _≤_, _<_}
+use Prim.Native.Nat.{ℕ, suc, _+_, _-_, _/_, _%_, _^_, _≤_, _<_}
 use native.Mathlib.Nat.{zero-add, zero-div}
 use native.Mathlib.Decide.{decLt}
 use native.Mathlib.Omega.{arith}
 use mathlib.Core.Path.{_≡_, refl, sym, ap, _∙_}
 use mathlib.Core.Logic.{inl, inr}
 use mathlib.Core.Bool.{Bool, true, false, cond}
-use mathlib.Core.List.{List, [], _∷_, _++_, map, List·Memᴰ, List·Memᴰ·cases-cons, List·Memᴰ·not-nil, List·Memᴰ·eq-of-singleton}
+use mathlib.Core.List.{List, [], _∷_, map, List·Memᴰ, List·Memᴰ·cases-cons, List·Memᴰ·not-nil, List·Memᴰ·eq-of-singleton}
 use borrow.Author.Tests.{eqb-true, eqb-false}
 use lib.Dec.{eqb}
 use lib.ListN.{length, length-map}
-use Rattle.semantics.specs.Condition.{Condition}
-use Rattle.semantics.specs.Automaton.{Mode, Move, Automaton, OnTimers, Proper, startHolds}
-use Rattle.reader.specs.Fields.{ModeFields, MoveFields, Fields}
+use Rattle.semantics.specs.Automaton.{Move, OnTimers, Proper, startHolds}
+use Rattle.reader.specs.Fields.{MoveFields, Fields}
 use Rattle.reader.specs.Format.{stands}
-use Rattle.reader.specs.Layout.{Optional, present, absent, InRow, none, more, TimersThere, IsCondition, IsReset, SixConditions, ModeLayout, MoveLayout, Layout}
+use Rattle.reader.specs.Layout.{Optional, present, absent, InRow, none, more, TimersThere, IsCondition, IsReset, SixConditions, MoveLayout, Layout}
 use Rattle.reader.specs.Meaning.{conditionOf, conditionsFrom, named, namedTimers, modeOf, moveOf, automaton}
 use Rattle.reader.specs.Read.{accepted, read}
 use Rattle.reader.specs.Theorems.Accepts.{accepts}

@@ -1,20 +1,17 @@
 -- Mode and move records are taken exactly as they are laid out.
 -- Assumes nothing.
-use Prim.Native.Nat.{ℕ, zero, suc, _+_, _-_, _/_, _%_, _^_, _≤_, _<_}
+use Prim.Native.Nat.{ℕ, _+_, _-_, _/_, _%_, _^_, _≤_, _<_}
 use native.Mathlib.Nat.{div-one, mod-eq-of-lt}
 use native.Mathlib.Omega.{arith}
-use mathlib.Core.Path.{_≡_, refl, sym, ap, _∙_}
-use mathlib.Core.Bool.{Bool, true, false, cond, _&&_}
-use mathlib.Core.List.{List, [], _∷_, _++_, append-nil, append-assoc}
+use mathlib.Core.Path.{_≡_, refl, ap, _∙_}
+use mathlib.Core.Bool.{true, _&&_}
+use mathlib.Core.List.{List, [], _∷_, _++_, append-nil}
 use borrow.Author.Tests.{lt-ltb, ltb-true}
-use lib.Dec.{ltb}
-use lib.ListN.{length}
 use lib.Pow.{pow-pos, pow-mono}
 use Rattle.semantics.specs.Regions.Compare.{and-true-iff}
-use Rattle.reader.specs.Parser.{Parser}
 use Rattle.reader.specs.Fields.{ModeFields, MoveFields}
-use Rattle.reader.specs.Format.{within, bitMap, amount, conditions, ifStands, stands, present, modeRecord, moveRecord}
-use Rattle.reader.specs.Layout.{Optional, InRow, TimersThere, Amount, IsCondition, SixConditions, IsReset, ModeLayout, MoveLayout}
+use Rattle.reader.specs.Format.{within, bitMap, amount, conditions, stands, present, modeRecord, moveRecord}
+use Rattle.reader.specs.Layout.{Optional, TimersThere, Amount, SixConditions, IsReset, ModeLayout, MoveLayout}
 use Rattle.reader.specs.Theorems.Bits.{there-below, below-there}
 use Rattle.reader.specs.Theorems.Exactly.{Exactly, Both, both, One, reworded, guarded, within-exactly, any-exactly, optional-exactly, order-exactly, Made, made}
 

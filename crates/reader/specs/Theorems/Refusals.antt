@@ -2,7 +2,7 @@
 -- Assumes nothing.
 use Prim.Native.Nat.{ℕ, zero, suc, _-_, _/_, _%_, _^_, _≤_}
 use native.Mathlib.Omega.{arith}
-use mathlib.Core.Path.{_≡_, refl, sym, _∙_}
+use mathlib.Core.Path.{_≡_, refl}
 use mathlib.Core.Bool.{Bool, true, false, cond, _&&_}
 use mathlib.Core.List.{List, [], _∷_}
 use lib.Dec.{leb}
@@ -11,7 +11,7 @@ use Rattle.reader.specs.Parser.{Parser, done, refuse, byte, _>>=_, inOrd
 use Rattle.reader.specs.Fields.{Fields}
 use Rattle.reader.specs.Format.{within, anyByte, ifStands, stands, present, bitMap, amount, conditions, modeRecord, moveRecord, header, table}
 use Rattle.reader.specs.Meaning.{automaton}
-use Rattle.reader.specs.Read.{Judgement, accepted, rejected, judge, read}
+use Rattle.reader.specs.Read.{accepted, rejected, judge, read}
 
 -- Every refusal of the parser has a number from 1 to 5.
 abbrev Refuses : {A : Type 0} → Parser A → Type 0

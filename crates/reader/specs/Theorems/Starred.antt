@@ -1,6 +1,6 @@
 -- The starred tables of document 01, "Tables with their outcome", as one list, with their outcomes under the definitions.
 -- Assumes nothing.
-use mathlib.Core.Path.{_≡_, refl, sym, ap, ap₂, _∙_}
+use mathlib.Core.Path.{_≡_, refl, ap₂, _∙_}
 use mathlib.Core.Bool.{Bool, true, false, _&&_}
 use mathlib.Core.Logic.{inl, inr}
 use mathlib.Core.List.{List, [], _∷_, _++_, List·Memᴰ, List·Memᴰ·cases-cons, List·Memᴰ·not-nil}
@@ -8,7 +8,6 @@ use Prim.Native.Nat.{ℕ}
 use native.Mathlib.Omega.{arith}
 use borrow.Author.Tests.{eqb-true}
 use lib.Dec.{eqb}
-use Rattle.semantics.specs.Automaton.{Automaton}
 use Rattle.semantics.specs.Region.{start, leave, arrive, delay, linger, reset, resetAll, charge, meets, within}
 use Rattle.semantics.specs.Corner.{sameList, cornerNumber, cornerAt}
 use Rattle.semantics.specs.Node.{nodeCount, nodeNumber, nodeAt}

@@ -18,7 +18,7 @@ use Rattle.semantics.specs.Corner.{countFrom}
 use Rattle.semantics.specs.Node.{nodeCount}
 use Rattle.semantics.specs.Chain.{Place, begin, step}
 use Rattle.semantics.specs.CornerGraph.{numberOf}
-use Rattle.semantics.specs.Path.{Graph, Closed, WeightsWithin, Cost, cost, costOf, _≼_, Least, LeastCosts, infinity, chargeAt, stepsAt, table}
+use Rattle.semantics.specs.Path.{Graph, Closed, WeightsWithin, Cost, costOf, _≼_, Least, LeastCosts, infinity, chargeAt, stepsAt, table}
 use Rattle.semantics.specs.Distance.{distanceWords}
 use Rattle.semantics.specs.Regions.Compare.{and-true-iff}
 use Rattle.semantics.specs.Regions.Lengths.{prices-top}

@@ -1,12 +1,10 @@
 -- The answer as a function that antt computes: the distances round by round, and the route read off them greedily.
 -- Assumes nothing.
 use mathlib.Core.Path.{_≡_, refl, sym, _∙_}
-use mathlib.Core.List.{List}
-use Prim.Native.Nat.{ℕ, _<_}
+use Prim.Native.Nat.{ℕ}
 use lib.ListN.{getD}
 use Rattle.semantics.specs.Automaton.{Automaton, Proper}
 use Rattle.semantics.specs.Path.{Graph, Closed, Entry, unreached, reached, LeastCosts}
-use Rattle.semantics.specs.Distance.{distance}
 use Rattle.semantics.specs.Chain.{begin}
 use Rattle.semantics.specs.Answer.{Answer, noRoute, route, answer}
 use Rattle.semantics.specs.CornerGraph.{startNode, cornerGraph}

@@ -20,7 +20,6 @@ use Rattle.semantics.specs.Bounds.Reset.{ResetTo}
 use Rattle.semantics.specs.Bounds.Steps.{rateAt, movedBy, Stepped, leaves, arrives, lingers, idles, moves}
 use Rattle.semantics.specs.Bounds.Shapes.{shape-top, shape-linger}
 use Rattle.semantics.specs.Bounds.Moved.{reset-well-formed, moved-to, moved-top}
-use Rattle.semantics.specs.Bounds.Reached.{Reached}
 
 -- A price after the step, at corner i, is the sum of a price before it and the weight of an edge that leads to i.
 pub record Incoming (r : PricedRegion) (out : ℕ → List Edge) (i c : ℕ) : Type 0 where

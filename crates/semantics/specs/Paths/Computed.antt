@@ -1,14 +1,13 @@
 -- The distances as a list that antt computes: round by round over all nodes, each round looking up the one before it.
 -- Assumes nothing.
 use mathlib.Core.Path.{_≡_, refl, sym, ap, _∙_}
-use mathlib.Core.List.{List, [], _∷_, map, List·Memᴰ, List·Memᴰ·cases-cons, List·Memᴰ·not-nil}
-use mathlib.Core.Logic.{inl, inr}
-use Prim.Native.Nat.{ℕ, zero, suc, pred, _+_, _≤_, _<_}
-use native.Mathlib.Nat.{zero-add, add-suc}
+use mathlib.Core.List.{List, [], _∷_, map, List·Memᴰ}
+use Prim.Native.Nat.{ℕ, zero, suc, pred, _+_, _<_}
+use native.Mathlib.Nat.{zero-add}
 use native.Mathlib.Omega.{arith}
-use lib.ListN.{length, getD}
+use lib.ListN.{getD}
 use Rattle.semantics.specs.Corner.{countFrom}
-use Rattle.semantics.specs.Path.{Edge, Graph, Closed, Entry, unreached, reached}
+use Rattle.semantics.specs.Path.{Edge, Graph, Closed, Entry, unreached}
 use Rattle.semantics.specs.Distance.{offered, lesser, relaxed, targetEntry, upTo, distance}
 
 -- One round: every node's entry by the edges that leave it and the entries d.

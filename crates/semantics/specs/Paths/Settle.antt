@@ -8,11 +8,11 @@ use mathlib.Core.List.{List}
 use Prim.Native.Nat.{ℕ, _≤_, _<_}
 use native.Mathlib.Decide.{ℕ-discrete, decLt}
 use native.Mathlib.Omega.{arith}
-use Rattle.semantics.specs.Path.{Edge, Graph, Leaves, Target, Closed, Cost, cost, Entry, unreached, reached, LeastCosts, Relaxed, Within, along, table}
+use Rattle.semantics.specs.Path.{Edge, Graph, Leaves, Target, Closed, cost, LeastCosts, Relaxed, along, table}
 use Rattle.semantics.specs.Paths.Cost.{cost-both}
 use Rattle.semantics.specs.Paths.Sound.{Sound, sound-least}
 use Rattle.semantics.specs.Paths.Seed.{Seeded}
-use Rattle.semantics.specs.Paths.Update.{Outside, Update, Fresh, settled, stale, relaxed-outside}
+use Rattle.semantics.specs.Paths.Update.{Outside, Fresh, settled, stale, relaxed-outside}
 use Rattle.semantics.specs.Paths.Sweep.{Swept}
 
 -- The class m is the nodes from lo to hi.

@@ -1,8 +1,8 @@
 -- Nodes are relaxed from the highest down, a row of them after another. Edges that rise (here those of waiting) are then relaxed for good; of
 -- the others only those that lead back among the nodes may have to be relaxed again.
 -- Assumes nothing.
-use mathlib.Core.Path.{_≡_, refl}
-use mathlib.Core.Bool.{Bool, true, false, _||_, or-true}
+use mathlib.Core.Path.{_≡_}
+use mathlib.Core.Bool.{Bool, false, _||_, or-true}
 use mathlib.Core.Logic.{inr}
 use mathlib.Core.List.{List}
 use Prim.Native.Nat.{ℕ, _≤_, _<_}

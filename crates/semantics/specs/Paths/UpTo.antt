@@ -1,18 +1,16 @@
 -- `distance` is the least cost everywhere.
 -- Assumes nothing.
-use mathlib.Core.Path.{_≡_, refl, sym, ap, _∙_}
+use mathlib.Core.Path.{_≡_, refl, sym, ap}
 use mathlib.Core.Bool.{Bool, true, false, cond}
 use mathlib.Core.Logic.{_⊎_, inl, inr, ⊎-elim}
 use mathlib.Core.List.{List, [], _∷_, List·Memᴰ, List·Memᴰ·cases-cons, List·Memᴰ·not-nil}
 use Prim.Native.Nat.{ℕ, zero, suc, pred, _+_, _≤_, _<_}
 use native.Mathlib.Omega.{arith}
-use native.Mathlib.Decide.{decLt, ℕ-discrete}
-use borrow.Author.Tests.{lt-ltb, le-ltb, eq-eqb, ne-eqb, ltb-true, ltb-false, eqb-true}
-use lib.Dec.{ltb, eqb}
+use borrow.Author.Tests.{lt-ltb, le-ltb, eq-eqb, ne-eqb}
 use lib.ListN.{length}
-use Rattle.semantics.specs.Path.{Edge, Graph, Closed, Leaves, Target, IsPath, chargeOf, Cost, cost, costOf, _≼_, _≺_, HasCost, Least, Entry, unreached, reached, LeastCosts, Within, along}
+use Rattle.semantics.specs.Path.{Edge, Graph, Closed, Leaves, Target, IsPath, Cost, cost, costOf, _≼_, _≺_, HasCost, Entry, unreached, reached, LeastCosts, Within, along}
 use Rattle.semantics.specs.Distance.{isLess, lesser, offered, relaxed, targetEntry, upTo, distance}
-use Rattle.semantics.specs.Paths.Cost.{cost-trans, cost-total, cost-weaken, cost-both, cost-along, not-both}
+use Rattle.semantics.specs.Paths.Cost.{cost-trans, cost-total, cost-weaken, cost-both, cost-along}
 use Rattle.semantics.specs.Paths.Loops.{short-path}
 use Rattle.semantics.specs.Paths.Distance.{within-trans}
 

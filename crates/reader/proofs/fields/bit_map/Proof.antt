@@ -1,5 +1,4 @@
 -- `reader::fields::bit_map` meets its contract. Assumes nothing.
-use native.Mathlib.Omega.{arith}
 use borrow.Author.Needs.{needs}
 use lib.ListN.{drop}
 use Rattle.reader.specs.Format.{within, bitMap}

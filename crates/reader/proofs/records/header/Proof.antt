@@ -1,8 +1,8 @@
 -- `reader::records::header` meets its contract. Assumes nothing.
 use native.Mathlib.Omega.{arith}
-use mathlib.Core.Path.{refl, sym, _∙_}
+use mathlib.Core.Path.{sym, _∙_}
 use borrow.Author.Needs.{needs}
-use Prim.Native.Nat.{ℕ, _-_}
+use Prim.Native.Nat.{_-_}
 use lib.ListN.{drop}
 use Rattle.reader.specs.Format.{within, header}
 use Rattle.reader.proofs.Giving.{part-refused, part-known, part-last}

@@ -1,7 +1,6 @@
 -- `reader::records::mode_record` meets its contract. Assumes nothing.
 use borrow.Author.Needs.{needs}
 use lib.ListN.{drop}
-use Rattle.reader.specs.Fields.{ModeFields}
 use Rattle.reader.specs.Format.{bitMap, amount, conditions, modeRecord}
 use Rattle.reader.proofs.Giving.{part-refused, part-known, part-last}
 use Rattle.reader.proofs.records.mode_record.Statement.{statement}

@@ -1,13 +1,10 @@
 -- `reader::records::move_record` meets its contract. Assumes nothing.
 use native.Mathlib.Omega.{arith}
 use borrow.Author.Needs.{needs}
-use Prim.Native.Nat.{ℕ, _-_, _^_}
+use Prim.Native.Nat.{_-_, _^_}
 use lib.ListN.{drop}
 use lib.Pow.{pow-pos}
-use Rattle.reader.specs.Parser.{Parser, _>>=_, run}
-use Rattle.reader.specs.Fields.{MoveFields}
 use Rattle.reader.specs.Format.{within, bitMap, amount, conditions, stands, ifStands, moveRecord}
-use Rattle.reader.specs.Step.{Gives}
 use Rattle.reader.proofs.Giving.{part-refused, part-known, part-last}
 use Rattle.reader.proofs.records.move_record.Statement.{statement}
 use Rattle.reader.proofs.records.move_record.Tie as tie

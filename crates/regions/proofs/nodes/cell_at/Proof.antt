@@ -1,10 +1,7 @@
 -- `regions::nodes::cell_at` meets its contract. Assumes nothing.
-use Prim.Native.Nat.{ℕ, _+_, _*_, _/_, _≤_}
-use mathlib.Core.Path.{_≡_, refl, ap, ap₂, _∙_}
-use mathlib.Core.List.{List, [], _∷_}
-use native.Mathlib.Omega.{arith}
-use lib.ListN.{length, getD}
-use Rattle.regions.proofs.Cells.{product-few, count-is, number-is, cell-is}
+use mathlib.Core.Path.{_≡_}
+use lib.ListN.{length}
+use Rattle.regions.proofs.Cells.{cell-is}
 use borrow.Author.Needs.{needs}
 use Rattle.regions.proofs.nodes.cell_at.Statement.{statement}
 use Rattle.regions.proofs.nodes.cell_at.Tie as tie

@@ -1,11 +1,10 @@
 -- `regions::nodes::cell_count` meets its contract. Assumes nothing.
-use Prim.Native.Nat.{ℕ, _+_, _*_, _/_, _≤_}
-use mathlib.Core.Path.{_≡_, refl, ap, ap₂, _∙_}
-use mathlib.Core.List.{List, [], _∷_}
+use Prim.Native.Nat.{_*_, _≤_}
+use mathlib.Core.Path.{_≡_}
 use native.Mathlib.Nat.{mul-le-mul}
 use native.Mathlib.Omega.{arith}
-use lib.ListN.{length, getD}
-use Rattle.regions.proofs.Cells.{product-few, count-is, number-is, cell-is}
+use lib.ListN.{length}
+use Rattle.regions.proofs.Cells.{product-few, count-is}
 use borrow.Author.Needs.{needs}
 use Rattle.regions.proofs.nodes.cell_count.Statement.{statement}
 use Rattle.regions.proofs.nodes.cell_count.Tie as tie

@@ -1,10 +1,9 @@
 -- `regions::nodes::cell_number` meets its contract. Assumes nothing.
-use Prim.Native.Nat.{ℕ, _+_, _*_, _/_, _≤_}
-use mathlib.Core.Path.{_≡_, refl, ap, ap₂, _∙_}
-use mathlib.Core.List.{List, [], _∷_}
+use Prim.Native.Nat.{ℕ, _+_, _*_}
+use mathlib.Core.Path.{_≡_, ap, _∙_}
 use native.Mathlib.Omega.{arith}
 use lib.ListN.{length, getD}
-use Rattle.regions.proofs.Cells.{product-few, count-is, number-is, cell-is}
+use Rattle.regions.proofs.Cells.{number-is}
 use borrow.Author.Needs.{needs}
 use Rattle.regions.proofs.nodes.cell_number.Statement.{statement}
 use Rattle.regions.proofs.nodes.cell_number.Tie as tie

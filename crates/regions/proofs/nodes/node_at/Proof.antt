@@ -1,9 +1,7 @@
 -- `regions::nodes::node_at` meets its contract. Assumes nothing.
-use Prim.Native.Nat.{ℕ, _/_, _%_, _≤_, _<_}
 use native.Mathlib.Nat.{mod-lt}
-use mathlib.Core.Path.{_≡_, sym, ap, ap₂, _∙_}
-use lib.ListN.{length, take}
-use Rattle.semantics.specs.Corner.{cornerCount}
+use mathlib.Core.Path.{_≡_}
+use lib.ListN.{length}
 use Rattle.regions.specs.Laws.Nodes.{corners-few}
 use Rattle.regions.proofs.Cells.{node-at-is}
 use native.Mathlib.Omega.{arith}

@@ -1,13 +1,11 @@
 -- `regions::nodes::node_count` meets its contract. Assumes nothing.
 use Prim.Native.Nat.{ℕ, _*_, _≤_}
-use mathlib.Core.Path.{_≡_, sym, ap, ap₂, _∙_}
+use mathlib.Core.Path.{_≡_, ap₂, _∙_}
 use borrow.Author.Tests.{le-leb, lt-leb}
-use Rattle.semantics.specs.Corner.{cornerCount}
-use Rattle.semantics.specs.Node.{cellCount, nodeCount}
+use Rattle.semantics.specs.Node.{nodeCount}
 use Rattle.reader.specs.Meaning.{automaton}
 use Rattle.reader.specs.Held.{fields}
 use Rattle.reader.specs.Theorems.Access.{counts}
-use Rattle.regions.specs.Nodes.{bounded}
 use Rattle.regions.specs.Laws.Nodes.{corners-few, table-few, table-nodes}
 use Rattle.regions.proofs.Cells.{product-few}
 use native.Mathlib.Omega.{arith}

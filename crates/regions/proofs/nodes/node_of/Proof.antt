@@ -1,7 +1,7 @@
 -- `regions::nodes::node_of` meets its contract. Assumes nothing.
-use Prim.Native.Nat.{ℕ, _+_, _*_, _≤_, _<_}
-use mathlib.Core.Path.{_≡_, sym, ap, ap₂, _∙_}
-use lib.ListN.{length, take}
+use Prim.Native.Nat.{_+_, _*_, _≤_}
+use mathlib.Core.Path.{_≡_}
+use lib.ListN.{length}
 use Rattle.regions.specs.Held.{view}
 use Rattle.regions.specs.Laws.Nodes.{corners-few}
 use Rattle.regions.specs.Laws.Fields.{holds}

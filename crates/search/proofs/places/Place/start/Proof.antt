@@ -7,7 +7,6 @@ use Rattle.semantics.specs.Region.{start}
 use Rattle.reader.specs.Theorems.Access.{counts, timer-count}
 use Rattle.regions.specs.declared.Region.{Region}
 use Rattle.regions.specs.Held.{pack}
-use Rattle.search.specs.declared.places.Place.{Place}
 use Rattle.search.proofs.places.Place.start.Statement.{statement}
 use Rattle.search.proofs.places.Place.start.Tie as tie
 

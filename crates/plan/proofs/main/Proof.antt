@@ -14,6 +14,9 @@ slice-aggregate-read-full c = search needs
 read-full-requires : tie.Need-read-full-requires
 read-full-requires c κs = search needs
 
+skip-rest-requires : tie.Need-skip-rest-requires
+skip-rest-requires c κs = search needs
+
 array-share-prefix-bytes : tie.Need-array-share-prefix-bytes
 array-share-prefix-bytes c = search needs
 
@@ -60,6 +63,7 @@ main-spec =
     (tie.spec
     slice-aggregate-read-full
     read-full-requires
+    skip-rest-requires
     array-share-prefix-bytes
     slice-aggregate-plan
     slice-aggregate-plan-2

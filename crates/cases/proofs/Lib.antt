@@ -1,3 +1,4 @@
 -- The laws that the functions' proofs cite.
 pub mod Steps
 pub mod Standing
+pub mod Answers

@@ -1,6 +1,6 @@
 -- The lines of an answer are short: a caller knows how many bytes to lend.
 -- Assumes nothing.
-use mathlib.Core.Path.{_≡_}
+use mathlib.Core.Path.{_≡_, ap}
 use mathlib.Core.List.{List, [], _∷_, _++_}
 use Prim.{Unit}
 use Prim.Native.Nat.{ℕ, suc, _+_, _*_, _^_, _≤_, _<_, min}
@@ -55,3 +55,7 @@ lines-short (Route C n) rs r h =
       decimal-below 9 C (omega arith),
       taken-short n rs h,
     )
+
+-- What begins with the lines is no shorter than they are.
+pub lines-within : (answer : Answer) (rs behind : List ℕ) {r : ℕ} {e : List ℕ} → r ≡ length (lines answer rs) → e ≡ lines answer rs ++ behind → r ≤ length e
+lines-within answer rs behind count bytes = omega (arith, count, ap length bytes, length-append (lines answer rs) behind)

@@ -1,5 +1,5 @@
 // The lines that `plan` prints for an answer.
-ghost use Prim.Native.Nat.{_+_, _≤_};
+ghost use Prim.Native.Nat.{_+_, _*_, _≤_};
 ghost use mathlib.Core.Path.{_≡_};
 ghost use mathlib.Core.List.{_++_, []};
 ghost use lib.ListN.{length, take, drop};
@@ -10,8 +10,9 @@ ghost use Rattle.route.specs.declared.Answer.the-variants.{Refused, Route};
 use route::Answer;
 
 // Puts the lines of the answer at the start of out, and says how many bytes they are. The route bytes begin with the route.
+// Out has 24 bytes, and four for each route byte.
 pub fn lines(answer: Answer, route: &[u8], out: &mut [u8]) -> usize
-    requires { ⌜ length (Lines·lines answer (now route)) ≤ length (now out) ⌝ }
+    requires { ⌜ 24 + 4 * length (now route) ≤ length (now out) ⌝ }
     ensures count { λ r. ⌜ r ≡ length (Lines·lines answer (now (route .entry))) ⌝ }
     ensures bytes { λ r. ⌜ now (out .exit) ≡ Lines·lines answer (now (route .entry)) ++ drop r (now (out .entry)) ⌝ }
 {

@@ -1,10 +1,11 @@
 -- `report::lines` meets its contract.
 -- Assumes nothing.
-use mathlib.Core.Path.{ap}
+use mathlib.Core.List.{[]}
 use native.Mathlib.Omega.{arith}
 use borrow.Author.Needs.{needs}
-use lib.ListN.{length}
+use Rattle.route.specs.declared.Answer.the-variants.{Refused, Route}
 use Rattle.report.specs.Lines.{lines}
+use Rattle.report.specs.Short.{AreBytes, lines-short}
 use Rattle.report.proofs.Chains.{lines-refused, lines-none, lines-route, put-start}
 use Rattle.report.proofs.lines.Statement.{statement}
 use Rattle.report.proofs.lines.Tie as tie
@@ -14,9 +15,9 @@ enum-known-answer c = search needs
 
 put-refusal-requires : tie.Need-put-refusal-requires
 put-refusal-requires c κs =
-    let s = c .before .before .before .before .before .before in
-    let e = lines-refused (c .before .before .answer .given .0 .0) (s .args .route .now) (c .before .before .answer .given .1) in
-    omega (arith, s .pre, ap length e)
+    let n = c .before .before .answer .given .0 .0 in
+    let short = lines-short (Refused n) [] (omega (arith, c .before .known-told .given)) (λ i l. absurd (omega arith)) in
+    omega (arith, c .before .before .before .before .before .before .pre, short)
 
 enum-told : tie.Need-enum-told
 enum-told c = search needs
@@ -25,19 +26,19 @@ slice-aggregate-put-text : tie.Need-slice-aggregate-put-text
 slice-aggregate-put-text c = search needs
 
 put-text-requires : tie.Need-put-text-requires
-put-text-requires c κs =
-    let s = c .before .before .before .before .before .before in
-    let e = lines-none (s .args .route .now) (c .before .before .enum-told .given .1) in
-    omega (arith, s .pre, ap length e)
+put-text-requires c κs = omega (arith, c .before .before .before .before .before .before .pre)
 
 enum-known-answer-2 : tie.Need-enum-known-answer-2
 enum-known-answer-2 c = search needs
 
 put-route-requires : tie.Need-put-route-requires
 put-route-requires c κs =
-    let s = c .before .before .before .before .before .before in
-    let e = lines-route (c .before .before .answer2 .given .0 .0) (c .before .before .answer2 .given .0 .1 .0) (s .args .route .now) (c .before .before .answer2 .given .1) in
-    omega (arith, s .pre, ap length e)
+    let known = c .before .before .before .before .before in
+    let charge = c .before .before .answer2 .given .0 .0 in
+    let steps = c .before .before .answer2 .given .0 .1 .0 in
+    let route = known .before .args .route .now in
+    let bytes : AreBytes route = λ i l. omega (arith, known .shared-slice-known .given i) in
+    omega (arith, known .before .pre, lines-short (Route charge steps) route (omega (arith, c .before .known-told2 .given)) bytes)
 
 same-length : tie.Need-same-length
 same-length c = search needs

@@ -1,4 +1,3 @@
 -- The laws that the functions' proofs cite.
 pub mod Steps
 pub mod Standing
-pub mod Answers

@@ -1,6 +1,7 @@
 // Document 01's cases through the call that plans a table. The words lent hold 7 before and the route bytes 9; after each call every word and every
 // route byte is held to what it must be, also behind the parts that were lent.
 ghost use Prim.Native.Nat.{_≤_};
+ghost use lib.ListN.{length};
 use crate::print;
 use libc::STDOUT_FILENO;
 use route::Answer;
@@ -18,23 +19,45 @@ pub fn run() {
     figure_2();
 }
 
-// Plans the bytes with so many words and so many route bytes lent. After it the first `cleared` words must be 0.
-fn plan_case(name: &[u8], bytes: &[u8], words: usize, route: usize, cleared: usize)
-    requires { ⌜ (words ≤ 129600) × (route ≤ 256) × (cleared ≤ 129600) ⌝ }
+// Plans the bytes with so many words lent and room for so many route bytes. After it the first `cleared` words must be 0.
+fn plan_case(name: &[u8], bytes: &[u8], lent: usize, room: usize, cleared: usize)
+    requires { ⌜ (lent ≤ 129600) × (room ≤ 256) ⌝ }
 {
-    let mut lent_words = [7u32; WORDS];
-    let mut lent_route = [9u8; ROUTE];
-    let answer = route::plan(bytes, &mut lent_words[..words], &mut lent_route[..route]);
+    let mut words = [7u32; WORDS];
+    let mut route = [9u8; ROUTE];
+    planned(name, bytes, &mut words, lent, &mut route, room, cleared);
+}
+
+// The same, with the words and the route bytes whose first parts are lent.
+fn planned(
+    name: &[u8],
+    bytes: &[u8],
+    words: &mut [u32],
+    lent: usize,
+    route: &mut [u8],
+    room: usize,
+    cleared: usize,
+)
+    requires { ⌜ (lent ≤ length (now words)) × (room ≤ length (now route)) × (length (now route) ≤ 256) ⌝ }
+{
+    let answer = route::plan(bytes, &mut words[..lent], &mut route[..room]);
     print::text(name);
     print::end_line();
-    let mut text = [0u8; 1100];
-    let length = report::lines(answer, &lent_route, &mut text);
-    io::write_all(STDOUT_FILENO, &text[..length]);
+    show(answer, route);
     let filled = steps(answer);
-    let start = words_are(&lent_words, 0, cleared, 0);
-    let rest = words_are(&lent_words, cleared, WORDS, 7);
-    let behind = bytes_are(&lent_route, filled, ROUTE, 9);
+    let start = words_are(words, 0, cleared, 0);
+    let rest = words_are(words, cleared, WORDS, 7);
+    let behind = bytes_are(route, filled, ROUTE, 9);
     said(start, rest, behind);
+}
+
+// Prints the answer's lines.
+fn show(answer: Answer, route: &[u8])
+    requires { ⌜ length (now route) ≤ 256 ⌝ }
+{
+    let mut text = [0u8; 1100];
+    let length = report::lines(answer, route, &mut text);
+    io::write_all(STDOUT_FILENO, &text[..length]);
 }
 
 // How many route bytes the answer fills.
@@ -143,25 +166,25 @@ fn limits() {
     e_64800(b"E = 64,800 with 129,600 words", 129600, 129600);
 }
 
-fn of_t(name: &[u8], words: usize, route: usize, cleared: usize)
-    requires { ⌜ (words ≤ 129600) × (route ≤ 256) × (cleared ≤ 129600) ⌝ }
+fn of_t(name: &[u8], lent: usize, room: usize, cleared: usize)
+    requires { ⌜ (lent ≤ 129600) × (room ≤ 256) ⌝ }
 {
     plan_case(
         name,
         b"\x03\x01\x02\x02\x02\x01\x03\x01\x01\x00\x01\x00\x01\x05\x03\x01\x02\x01\x51",
-        words,
-        route,
+        lent,
+        room,
         cleared,
     );
 }
 
-fn e_64800(name: &[u8], words: usize, cleared: usize)
-    requires { ⌜ (words ≤ 129600) × (cleared ≤ 129600) ⌝ }
+fn e_64800(name: &[u8], lent: usize, cleared: usize)
+    requires { ⌜ lent ≤ 129600 ⌝ }
 {
     plan_case(
         name,
         b"\x10\x03\x00\x00\x02\x02\x05\x00\x00\x00\x00\x00\x00\x00\x00\x00\x00\x00\x00\x00\x00\x00\x00",
-        words,
+        lent,
         ROUTE,
         cleared,
     );

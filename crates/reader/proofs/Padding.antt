@@ -4,7 +4,7 @@ use Prim.Native.Nat.{ℕ, suc, _+_, _-_, _≤_, _<_}
 use native.Mathlib.Omega.{arith}
 use mathlib.Core.Path.{_≡_, sym, ap, ap₂, _∙_}
 use mathlib.Core.List.{List, [], _∷_, _++_, append-assoc, append-nil}
-use lib.ListN.{length, length-append, length-replicate, replicate, set}
+use lib.ListN.{length, length-append, replicate, set}
 use lib.Seq.{set-append-seam, sets}
 use Rattle.reader.specs.Held.{pad}
 
@@ -33,6 +33,3 @@ pad-several n l (x ∷ xs) h =
 -- No entry is left behind the list.
 pub pad-full : (n : ℕ) (l : List ℕ) → length l ≡ n → pad n l ≡ l
 pad-full n l h = let e : n - length l ≡ 0 = omega arith in ap (λ (k : ℕ). l ++ replicate k 0) e ∙ append-nil l
-
-pub length-pad : (n : ℕ) (l : List ℕ) → length l ≤ n → length (pad n l) ≡ n
-length-pad n l h = omega (arith, length-append l (replicate (n - length l) 0), length-replicate {A = ℕ} (n - length l) 0)

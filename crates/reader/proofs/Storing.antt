@@ -12,7 +12,8 @@ use Rattle.reader.specs.Format.{bitMap, amount, conditions, within, ifSt
 use Rattle.reader.specs.Held.{pad, flat}
 use Rattle.reader.specs.Step.{Gives, refuses, gives, HoldModes, HoldMoves}
 use Rattle.reader.specs.Theorems.Running.{parts, order-length, took-same}
-use Rattle.reader.proofs.Padding.{pad-more, pad-several, length-pad}
+use Rattle.reader.specs.Theorems.Access.{length-pad}
+use Rattle.reader.proofs.Padding.{pad-more, pad-several}
 use Rattle.reader.proofs.Collecting.{Gathered}
 
 map-append : {A B : Type 0} (f : A → B) (l m : List A) → map f (l ++ m) ≡ map f l ++ map f m

@@ -12,10 +12,9 @@ use Rattle.semantics.specs.Node.{nodeCount}
 use Rattle.semantics.specs.Path.{infinity}
 use Rattle.semantics.specs.Chain.{Place, begin}
 use Rattle.semantics.specs.Answer.{Answer as Best, route}
-use Rattle.semantics.specs.Answers.Reading.{startCharge, startSteps, Reading, reading}
+use Rattle.semantics.specs.Answers.Reading.{startCharge, startSteps}
 use Rattle.reader.specs.declared.Table.{Table}
 use Rattle.reader.specs.Held.{IsTable}
-use Rattle.reader.specs.Theorems.Access.{table-proper}
 use Rattle.search.specs.declared.places.Place.{Place as PlaceHeld}
 use Rattle.search.specs.declared.places.Cost.{Cost as CostHeld}
 use Rattle.search.specs.Regions.{automatonOf}
@@ -25,6 +24,7 @@ use Rattle.search.specs.Laws.Chains.{start-at}
 use Rattle.route.specs.declared.Answer.the-variants.{Refused, NoRoute, Route}
 use Rattle.route.specs.Plan.{outcome, routed}
 use Rattle.route.specs.Choose.{Found, Reached, Written, ReadOff}
+use Rattle.route.proofs.Writing.{found-reading}
 
 -- The two outcomes of a route.
 module _ (a : Automaton) (C : ℕ) (ks ws rs : List ℕ) where
@@ -52,14 +52,11 @@ module _ (t : Table) (ws : List ℕ) (f : Found t ws) where
     pub said-steps : c .steps ≡ startSteps (automatonOf t) ws
     said-steps = ap (λ (d : CostHeld). d .steps) said-of-start
 
-  words-reading : Reading (automatonOf t) (t .goal) ws
-  words-reading = reading (automatonOf t) (table-proper t (f .is-table)) (t .goal) ws (f .least)
-
   -- The start is unreached.
   pub read-none : (charge : ℕ) → charge ≡ startCharge (automatonOf t) ws → charge ≡ infinity → (rs : List ℕ) → ReadOff t rs rs NoRoute
   read-none charge e none rs vs =
       let a = automatonOf t in
-      sym (ap (λ (x : Best). routed a x vs rs) (words-reading .none .0 (sym e ∙ none)))
+      sym (ap (λ (x : Best). routed a x vs rs) (found-reading f .none .0 (sym e ∙ none)))
 
   -- It is reached.
   module _
@@ -69,7 +66,7 @@ module _ (t : Table) (ws : List ℕ) (f : Found t ws) where
     pub read-short : length rs < steps → ReadOff t rs rs (Refused 10)
     read-short short vs =
         let a = automatonOf t in
-        let o = words-reading .found (λ e. known (charge-is ∙ e)) in
+        let o = found-reading f .found (λ e. known (charge-is ∙ e)) in
         sym (ap (λ (x : Best). routed a x vs rs) (o .1)
         ∙ routed-short a (startCharge a ws) (o .0) vs rs (omega (arith, o .2)))
 

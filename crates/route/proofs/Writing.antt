@@ -24,7 +24,7 @@ use Rattle.search.specs.Regions.{automatonOf}
 use Rattle.search.specs.Places.{packPlace, viewPlace, PlaceAt}
 use Rattle.search.specs.Laws.Chains.{PricesBelow, start-at, step-prices, prices-room}
 use Rattle.route.specs.declared.Chosen.{Chosen as ChosenHeld}
-use Rattle.route.specs.Choose.{Onward, IsChosen, Reached, Written}
+use Rattle.route.specs.Choose.{Found, Onward, IsChosen, Reached, Written}
 
 -- The first i bytes of the route are chosen and written over the first bytes of rs, and lead to the place that s holds.
 pub record Writing (t : Table) (ws : List ℕ) (steps : ℕ) (rs rs′ : List ℕ) (s : PlaceHeld) (i : ℕ) : Type 0 where
@@ -50,17 +50,18 @@ unfolding start
 start-free n zero = refl
 start-free n (suc j) = refl
 
-module _ {t : Table} {ws : List ℕ} {charge steps : ℕ} (rs : List ℕ) (h : Reached t ws charge steps (length rs)) where
-  reads : Reading (automatonOf t) (t .goal) ws
-  reads = reading (automatonOf t) (table-proper t (h .found .is-table)) (t .goal) ws (h .found .least)
+-- What the words of a search say of the answer.
+pub found-reading : {t : Table} {ws : List ℕ} → Found t ws → Reading (automatonOf t) (t .goal) ws
+found-reading {t} {ws} f = reading (automatonOf t) (table-proper t (f .is-table)) (t .goal) ws (f .least)
 
+module _ {t : Table} {ws : List ℕ} {charge steps : ℕ} (rs : List ℕ) (h : Reached t ws charge steps (length rs)) where
   known : startCharge (automatonOf t) ws ≢ infinity
   known e = h .known (h .charge-is ∙ e)
 
   -- There are fewer steps than nodes.
   pub steps-few : steps < mostNodes
   steps-few =
-      let f = reads .found known in
+      let f = found-reading (h .found) .found known in
       let few = answer-steps (automatonOf t) (table-proper t (h .found .is-table)) (t .goal) _ (f .0) (f .1) in
       omega (arith, few, f .2, h .steps-are, h .found .few)
 
@@ -75,7 +76,7 @@ module _ {t : Table} {ws : List ℕ} {charge steps : ℕ} (rs : List ℕ) (h : R
         bytes = [];
         counted = refl;
         stored = refl;
-        chosen = subst₂ (ReadSoFar a (t .goal) ws []) same all (reads .begins known);
+        chosen = subst₂ (ReadSoFar a (t .goal) ws []) same all (found-reading (h .found) .begins known);
         held = rw e (first .0);
         prices = subst (PricesBelow 0) same (λ j b. omega (arith, start-free (timers a) j));
       }
@@ -92,7 +93,7 @@ module _ {t : Table} {ws : List ℕ} {charge steps : ℕ} (rs : List ℕ) (h : R
         record {
           bytes = w .bytes;
           is-route = rw (h .charge-is)
-              (reads .ends (w .bytes) (viewPlace s) (subst (ReadSoFar (automatonOf t) (t .goal) ws (w .bytes) (viewPlace s)) none (w .chosen)));
+              (found-reading (h .found) .ends (w .bytes) (viewPlace s) (subst (ReadSoFar (automatonOf t) (t .goal) ws (w .bytes) (viewPlace s)) none (w .chosen)));
           counted = w .counted ∙ same;
           stored = subst (λ (n : ℕ). rs′ ≡ w .bytes ++ drop n rs) same (w .stored);
         }
@@ -106,7 +107,7 @@ module _ {t : Table} {ws : List ℕ} {charge steps : ℕ} (rs : List ℕ) (h : R
       -- What is asked of the choice of the next byte.
       pub writing-onward : Onward t ws s charge (steps - 1 - i)
       writing-onward =
-          let o = reads .onward (w .bytes) (viewPlace s) (steps - 1 - i) one-left in
+          let o = found-reading (h .found) .onward (w .bytes) (viewPlace s) (steps - 1 - i) one-left in
           record {
             found = h .found;
             held = w .held;
@@ -132,7 +133,7 @@ module _ {t : Table} {ws : List ℕ} {charge steps : ℕ} (rs : List ℕ) (h : R
             counted = length-append (w .bytes) (r .byte ∷ []) ∙ omega (arith, w .counted);
             stored = ap (λ (l : List ℕ). set l i (r .byte)) (w .stored) ∙ store-next rs i (r .byte) (omega (arith, h .room)) (w .bytes) (w .counted);
             chosen = subst (ReadSoFar a (t .goal) ws (w .bytes ++ r .byte ∷ []) p′) fewer
-                (reads .more (w .bytes) p (steps - 1 - i) (r .byte) p′ one-left chosen);
+                (found-reading (h .found) .more (w .bytes) p (steps - 1 - i) (r .byte) p′ one-left chosen);
             held = c .held;
             prices = subst (λ (n : ℕ). PricesBelow n p′) dearer
                 (step-prices t (h .found .is-table) p (w .held .place) (i * mostPrice) (r .byte) p′ (w .prices) (c .chosen .allowed));

@@ -3,7 +3,7 @@
 -- Assumes nothing.
 use mathlib.Core.Path.{_≡_, refl, sym, ap, _∙_}
 use mathlib.Core.Bool.{Bool, true, false, _&&_, _||_, not}
-use mathlib.Core.Logic.{_↔_, _≢_, inl, inr}
+use mathlib.Core.Logic.{_↔_, _≢_}
 use mathlib.Core.List.{List, _++_}
 use mathlib.Core.Option.{some}
 use Prim.Native.Nat.{ℕ, zero, suc, _+_, _*_, _≤_, _<_, _^_}
@@ -18,7 +18,7 @@ use Rattle.semantics.specs.Corner.{countFrom}
 use Rattle.semantics.specs.Node.{nodeCount}
 use Rattle.semantics.specs.Chain.{Place, begin, step}
 use Rattle.semantics.specs.CornerGraph.{numberOf}
-use Rattle.semantics.specs.Path.{Graph, Closed, WeightsWithin, Cost, costOf, _≼_, Least, LeastCosts, infinity, chargeAt, stepsAt, table}
+use Rattle.semantics.specs.Path.{Cost, LeastCosts, infinity, chargeAt, stepsAt, table}
 use Rattle.semantics.specs.Distance.{distanceWords}
 use Rattle.semantics.specs.Regions.Compare.{and-true-iff}
 use Rattle.semantics.specs.Regions.Lengths.{prices-top}
@@ -26,7 +26,7 @@ use Rattle.semantics.specs.Bounds.Prices.{price}
 use Rattle.semantics.specs.Bounds.Reached.{reached-begin}
 use Rattle.semantics.specs.Bounds.Steps.{step-view}
 use Rattle.semantics.specs.Bounds.Flow.{step-flow}
-use Rattle.semantics.specs.Paths.Loops.{short-path, path-charge}
+use Rattle.semantics.specs.Paths.Least.{least-charge}
 use Rattle.semantics.specs.Paths.UpTo.{distance-least}
 use Rattle.semantics.specs.Paths.Found.{found-least}
 use Rattle.semantics.specs.Answers.Places.{IsPlace, reached-place, place-step}
@@ -179,19 +179,6 @@ completes-iff t ws p c =
       (λ k. some-completes a ws p c n 0 (k .corner) (omega arith) (omega (arith, k .there)) (can-corner a ws p c k)),
     )
 
--- A least cost is at most that of a path of fewer steps than there are nodes.
-module _ (g : Graph) (closed : Closed g) (w : ℕ) (light : WeightsWithin g w) where
-  no-dearer : (b c : Cost) → b ≼ c → b .charge ≤ c .charge
-  no-dearer b c (inl k) = omega arith
-  no-dearer b c (inr k) = omega (arith, k .0)
-
-  pub least-charge : (v : ℕ) (c : Cost) → v < g .nodes → Least g v c → (n : ℕ) × (n < g .nodes) × (c .charge ≤ n * w)
-  least-charge v c b least =
-      let s = short-path g closed v (least .attained .path) b (least .attained .is-path) in
-      let below = no-dearer c (costOf (s .path)) (least .least (s .path) (s .is-path)) in
-      let bound = path-charge g closed w light v (s .path) b (s .is-path) in
-      (length (s .path), s .few, omega (arith, below, bound))
-
 -- The words of a search hold the least costs.
 pub searched-least :
     (t : Table) → IsTable t → (l : ℕ) (ws : List ℕ) → nodeCount (automatonOf t) ≤ mostNodes → 2 * nodeCount (automatonOf t) ≤ length ws
@@ -206,5 +193,4 @@ searched-least t h l ws few room =
     let found : searched a l ws ≡ distanceWords g ++ drop (2 * nodeCount a) ws =
     rw (le-leb (nodeCount a) mostNodes few, le-leb (2 * nodeCount a) (length ws) room) refl in
     found-least g (searched a l ws) closed (drop (2 * nodeCount a) ws) found
-    (λ v c b q e. let o = least-charge g closed mostPrice light v c b (distance-least g closed .least v c b q) in
-    omega (arith, o .1, o .2, graph-nodes a l, e))
+    (λ v c b q e. omega (arith, least-charge g closed v b c (distance-least g closed .least v c b q) mostPrice light, graph-nodes a l, e))

@@ -43,8 +43,8 @@ module _ (bytes : List ℕ) (lent : ℕ) where
   -- The bytes have one automaton.
   one-automaton : (a b : Automaton) → IsSearched bytes lent a → IsSearched bytes lent b → a ≡ b
   one-automaton a b s t =
-      let same : s .fields ≡ t .fields = cc (s .accepted, t .accepted) in
-      s .automaton ∙ ap automaton same ∙ sym (t .automaton)
+      let same : s .fields ≡ t .fields = cc (s .is-accepted, t .is-accepted) in
+      s .is-automaton ∙ ap automaton same ∙ sym (t .is-automaton)
 
   -- A refusal before the search, by another number than 10.
   refused-keeps : (rs : List ℕ) (n : ℕ) → n ≢ 10 → ((a : Automaton) → IsSearched bytes lent a → ⊥) → KeepsDemand bytes lent rs (Refused n)
@@ -117,7 +117,7 @@ module _ (bytes : List ℕ) (lent : ℕ) where
   -- The room for the search, of a table that was read.
   module _ (a : Automaton) (f : Fields) (is : a ≡ automaton f) (read-as : read bytes ≡ accepted f) where
     same-nodes : (b : Automaton) → IsSearched bytes lent b → nodeCount b ≡ nodeCount a
-    same-nodes b t = let same : t .fields ≡ f = cc (t .accepted) in ap nodeCount (t .automaton ∙ ap automaton same ∙ sym is)
+    same-nodes b t = let same : t .fields ≡ f = cc (t .is-accepted) in ap nodeCount (t .is-automaton ∙ ap automaton same ∙ sym is)
 
     room-keeps : (ws rs : List ℕ) → Keeps (afterRoom (answered a lent) a ws rs)
     room-keeps ws rs = go (leb (nodeCount a) mostNodes) refl (leb (2 * nodeCount a) lent) refl
@@ -129,8 +129,8 @@ module _ (bytes : List ℕ) (lent : ℕ) where
             routed-keeps a
             (record {
               fields = f;
-              accepted = read-as;
-              automaton = is;
+              is-accepted = read-as;
+              is-automaton = is;
               few = leb-true (nodeCount a) mostNodes q;
               room = leb-true (2 * nodeCount a) lent h;
             }) (answer a (a .goal)) ws rs (answer-demand a (subst Proper (sym is) (accepted-proper bytes f read-as)) (a .goal))
@@ -147,5 +147,5 @@ planned-keeps bytes ws rs = go (read bytes) refl
     go : (j : Judgement) → read bytes ≡ j → Keeps bytes (length ws) (judged j ws rs)
     go (rejected n) e =
         refused-keeps bytes (length ws) rs n (λ q. omega (arith, rejected-range bytes n e))
-        (λ b t. let k = t .accepted in let z : _≡_ {A = ℕ} 0 1 = cc in omega arith)
+        (λ b t. let k = t .is-accepted in let z : _≡_ {A = ℕ} 0 1 = cc in omega arith)
     go (accepted f) e = room-keeps bytes (length ws) (automaton f) f refl e ws rs

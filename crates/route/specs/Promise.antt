@@ -19,8 +19,8 @@ use Rattle.route.specs.declared.Answer.the-variants.{Refused, NoRoute, R
 -- The bytes are those of a table that planning does not refuse before the search, with so many words lent, and a is its automaton.
 pub record IsSearched (bytes : List ℕ) (lent : ℕ) (a : Automaton) : Type 0 where
   pub fields : Fields
-  pub accepted : read bytes ≡ accepted fields
-  pub automaton : a ≡ automaton fields
+  pub is-accepted : read bytes ≡ accepted fields
+  pub is-automaton : a ≡ automaton fields
   pub few : nodeCount a ≤ mostNodes
   pub room : 2 * nodeCount a ≤ lent
 

@@ -8,14 +8,12 @@ ghost use Rattle.route.specs.Promise.{KeepsDemand};
 ghost use Rattle.route.specs.Choose.{Found, Onward, IsChosen, Reached, Written, ReadOff};
 use reader::Table;
 use reader::Verdict;
+use search::INFINITY;
 use search::Searched;
 use search::places::Place;
 
 // "10: the route has more steps than route bytes lent".
 const ROUTE_TOO_LONG: u8 = 10;
-
-// An unreached node has this as its charge.
-const INFINITY: u32 = 0xFFFF_FFFF;
 
 // A refusal with document 01's number; no route; or a route with its charge and its number of steps.
 pub enum Answer {

@@ -19,6 +19,9 @@ use reader::Table;
 use regions::nodes;
 use regions::nodes::Nodes;
 
+// An unreached node has this in both of its words.
+pub const INFINITY: u32 = 0xFFFF_FFFF;
+
 // "8: E above 65,536".
 const TOO_MANY_NODES: u8 = 8;
 
@@ -97,7 +100,7 @@ fn seed(words: &mut [u32], nodes: usize, goal: usize, modes: usize)
     ensures { λ _. ⌜ Seeds nodes goal modes (now (words .entry)) (now (words .exit)) ⌝ }
 {
     let end = 2 * nodes;
-    words::fill(&mut words[..end], words::INFINITY);
+    words::fill(&mut words[..end], INFINITY);
     if goal < modes {
         let share = 2 * (nodes / modes);
         let first = goal * share;

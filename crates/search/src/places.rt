@@ -8,8 +8,8 @@ ghost use Rattle.semantics.specs.Chain.{begin, step, moveStep, delayStep, linge
 ghost use Rattle.reader.specs.Held.{IsTable};
 ghost use Rattle.search.specs.Regions.{automatonOf};
 ghost use Rattle.search.specs.Places.{packPlace, viewPlace, packStep, costOf, completesWith, completes, PlaceAt, StepRoom, CornerThere};
+use crate::INFINITY;
 use crate::conditions;
-use crate::words;
 use reader::Table;
 use regions::Region;
 use regions::nodes;
@@ -189,7 +189,7 @@ impl Cost {
     fn completes_with(self, price: u32, charge: u32, steps: u32) -> bool
         ensures { λ r. ⌜ r ≡ completesWith price (self .charge) (self .steps) (cost charge steps) ⌝ }
     {
-        if self.charge == words::INFINITY {
+        if self.charge == INFINITY {
             return false;
         }
         if charge < price {

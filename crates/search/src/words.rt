@@ -2,9 +2,7 @@
 ghost use mathlib.Core.Path.{_≡_};
 ghost use lib.ListN.{length, replicate};
 ghost use Rattle.search.specs.Edges.{EdgeReady, EdgeRelaxed};
-
-// An unreached node has this in both of its words.
-pub const INFINITY: u32 = 0xFFFF_FFFF;
+use crate::INFINITY;
 
 // Every word becomes x.
 pub fn fill(words: &mut [u32], x: u32)

@@ -10,6 +10,7 @@ use Rattle.semantics.specs.Region.{start}
 use Rattle.semantics.specs.Node.{nodeCount}
 use Rattle.semantics.specs.Chain.{Place, begin, step}
 use Rattle.reader.specs.declared.Table.{Table}
+use Rattle.reader.specs.Fields.{mostPrice}
 use Rattle.reader.specs.Held.{IsTable}
 use Rattle.search.specs.declared.Searched.the-variants.{Nodes}
 use Rattle.search.specs.declared.places.Place.{Place as PlaceHeld}
@@ -20,10 +21,10 @@ use Rattle.search.specs.Places.{packPlace, viewPlace, packStep, PlaceAt, StepRo
 use Rattle.search.specs.Laws.Answers.{answer-fits}
 use Rattle.search.specs.Laws.Chains.{PricesBelow, start-at, step-at, step-prices, prices-room}
 
--- The struct holds a place of the table's graph, whose prices are at most 255 for each of the n steps made.
+-- The struct holds a place of the table's graph, whose prices are at most the greatest rate or price for each of the n steps made.
 pub record Stands (t : Table) (n : ℕ) (s : PlaceHeld) : Type 0 where
   pub held : PlaceAt t s
-  pub below : PricesBelow (255 * n) (viewPlace s)
+  pub below : PricesBelow (mostPrice * n) (viewPlace s)
 
 -- The start region has the single price 0.
 begin-prices : (a : Automaton) → PricesBelow 0 (begin a)
@@ -39,7 +40,7 @@ module _ (t : Table) (h : IsTable t) where
 
   -- There is room for a step.
   pub stands-room : (s : PlaceHeld) (n : ℕ) → Stands t n s → n ≤ 5 → StepRoom s
-  stands-room s n k few = prices-room t h s (k .held) (255 * n) (k .below) (omega arith)
+  stands-room s n k few = prices-room t h s (k .held) (mostPrice * n) (k .below) (omega arith)
 
   -- An allowed step.
   pub stands-step :
@@ -52,10 +53,10 @@ module _ (t : Table) (h : IsTable t) where
       go none q e allowed = absurd (let z : _≡_ {A = ℕ} 0 1 = cc in omega arith)
       go (some p) q e allowed =
           let o = step-at t h s (k .held) byte p q in
-          let prices : PricesBelow (255 * (n + 1)) p =
-          λ j b. omega (arith, step-prices t h (viewPlace s) (k .held .place) (255 * n) byte p (k .below) q j b) in
+          let prices : PricesBelow (mostPrice * (n + 1)) p =
+          λ j b. omega (arith, step-prices t h (viewPlace s) (k .held .place) (mostPrice * n) byte p (k .below) q j b) in
           subst (Stands t (n + 1)) (sym (ap (λ (u : Stepped). u .place) e))
-          (record { held = o .0; below = subst (PricesBelow (255 * (n + 1))) (sym (o .1)) prices })
+          (record { held = o .0; below = subst (PricesBelow (mostPrice * (n + 1))) (sym (o .1)) prices })
 
 -- The answer is a number of nodes.
 pub words-lent : (a : Automaton) (lent n : ℕ) → answered a lent ≡ Nodes n → 2 * nodeCount a ≤ lent

@@ -4,10 +4,10 @@
 use mathlib.Core.Path.{_≡_, ap, ap₂, _∙_, sym}
 use mathlib.Core.Bool.{true, false}
 use mathlib.Core.List.{List}
-use Prim.Native.Nat.{ℕ, zero, suc, _+_, _*_, _≤_, _<_}
+use Prim.Native.Nat.{ℕ, zero, suc, _+_, _≤_, _<_}
 use native.Mathlib.Decide.{ℕ-discrete, decLe}
 use native.Mathlib.Omega.{arith}
-use lib.ListN.{length, getD, take, drop}
+use lib.ListN.{length, getD, take}
 use Rattle.semantics.specs.Automaton.{Automaton, Mode, Move, modeAt, moveAt}
 use Rattle.semantics.specs.Region.{PricedRegion, top, resetAll, meetsAll}
 use Rattle.semantics.specs.Path.{Edge, Leaves}
@@ -19,13 +19,14 @@ use Rattle.semantics.specs.Bounds.Prices.{price}
 use Rattle.semantics.specs.Answers.Places.{IsPlace}
 use Rattle.semantics.specs.Answers.Moving.{number-row, movedTo, MoveEdge, edge-move, move-edge, moved-place, last-price, first-price}
 use Rattle.reader.specs.declared.Table.{Table}
-use Rattle.reader.specs.Meaning.{conditionsFrom, namedTimers}
+use Rattle.reader.specs.Meaning.{namedTimers}
 use Rattle.reader.specs.Held.{IsTable}
 use Rattle.reader.specs.Theorems.Access.{table-proper, counts, move-count, target-below, ceilings-are, move-at, mode-at}
 use Rattle.regions.specs.declared.Region.{Region}
 use Rattle.regions.specs.Held.{view}
 use Rattle.regions.specs.Laws.Fields.{holds, top-is, price-at}
 use Rattle.regions.specs.Laws.Chain.{Gives}
+use Rattle.search.specs.Rows.{conditionsAt}
 use Rattle.search.specs.Edges.{LastAtMost, edgeTo}
 use Rattle.search.specs.Regions.{automatonOf, graphOf, placeOf, RegionAt, Own}
 use Rattle.search.proofs.Graphs.{region-top, region-indexed, corner-number}
@@ -76,7 +77,7 @@ module _ (t : Table) (is : IsTable t) (l mode from : ℕ) (region : Region) (r :
   label-few = omega (arith, counts t is, o .there)
 
   -- The move by the arrays of the table.
-  guard-is : moveAt a e .conditions ≡ conditionsFrom 0 (take 6 (drop (6 * e) (t .guards)))
+  guard-is : moveAt a e .conditions ≡ conditionsAt (t .guards) e
   guard-is = ap (λ (m : Move). m .conditions) (move-at t is e (o .there))
 
   source-is : moveAt a e .source ≡ mode
@@ -91,7 +92,7 @@ module _ (t : Table) (is : IsTable t) (l mode from : ℕ) (region : Region) (r :
   resets-is : moveAt a e .resets ≡ namedTimers (getD (t .resets) e 0)
   resets-is = ap (λ (m : Move). m .resets) (move-at t is e (o .there))
 
-  invariant-is : modeAt a (moveAt a e .target) .conditions ≡ conditionsFrom 0 (take 6 (drop (6 * getD (t .targets) e 0) (t .invariants)))
+  invariant-is : modeAt a (moveAt a e .target) .conditions ≡ conditionsAt (t .invariants) (getD (t .targets) e 0)
   invariant-is =
       ap (λ (m : ℕ). modeAt a m .conditions) target-is
       ∙ ap (λ (m : Mode). m .conditions) (mode-at t is (getD (t .targets) e 0) (target-below t is e (o .there)))
@@ -106,7 +107,7 @@ module _ (t : Table) (is : IsTable t) (l mode from : ℕ) (region : Region) (r :
 
   -- A condition of the move fails.
   pub guard-fails :
-      meetsAll (conditionsFrom 0 (take 6 (drop (6 * e) (t .guards)))) (view region) ≡ false → (j : ℕ) (x : Edge) → EdgeOf t l from region e j x → ⊥
+      meetsAll (conditionsAt (t .guards) e) (view region) ≡ false → (j : ℕ) (x : Edge) → EdgeOf t l from region e j x → ⊥
   guard-fails f j x d =
       let holds : meetsAll (moveAt a e .conditions) (view region) ≡ true =
       rw (d .labelled) at (edge-tells j x d .guard) in
@@ -121,7 +122,7 @@ module _ (t : Table) (is : IsTable t) (l mode from : ℕ) (region : Region) (r :
 
     -- A condition of the target fails.
     pub target-fails :
-        meetsAll (conditionsFrom 0 (take 6 (drop (6 * getD (t .targets) e 0) (t .invariants)))) (view moved) ≡ false
+        meetsAll (conditionsAt (t .invariants) (getD (t .targets) e 0)) (view moved) ≡ false
         → (j : ℕ) (x : Edge) → EdgeOf t l from region e j x → ⊥
     target-fails f j x d =
         let holds : meetsAll (modeAt a (moveAt a e .target) .conditions) (movedTo a e p .region) ≡ true =
@@ -132,8 +133,8 @@ module _ (t : Table) (is : IsTable t) (l mode from : ℕ) (region : Region) (r :
         omega arith
 
     -- All conditions hold, and the first corner after the resets is the node `to`.
-    module _ (guard : meetsAll (conditionsFrom 0 (take 6 (drop (6 * e) (t .guards)))) (view region) ≡ true)
-        (invariant : meetsAll (conditionsFrom 0 (take 6 (drop (6 * getD (t .targets) e 0) (t .invariants)))) (view moved) ≡ true)
+    module _ (guard : meetsAll (conditionsAt (t .guards) e) (view region) ≡ true)
+        (invariant : meetsAll (conditionsAt (t .invariants) (getD (t .targets) e 0)) (view moved) ≡ true)
         (to : ℕ) (number : to ≡ nodeNumber (take (moved .timers) (t .ceilings)) (nodeOf (getD (t .targets) e 0) (view moved) 0)) where
       abbrev after : Place
       after = movedTo a e p

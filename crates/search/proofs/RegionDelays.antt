@@ -7,7 +7,7 @@ use mathlib.Core.Logic.{inr}
 use mathlib.Core.List.{List}
 use Prim.Native.Nat.{ℕ, suc, _+_, _*_, _≤_, _<_}
 use native.Mathlib.Omega.{arith}
-use lib.ListN.{length, getD, take, drop}
+use lib.ListN.{length, getD, take}
 use Rattle.semantics.specs.Automaton.{Automaton, Mode, modeAt}
 use Rattle.semantics.specs.Region.{PricedRegion, top, meetsAll, within}
 use Rattle.semantics.specs.Path.{Edge, Leaves, Relaxed, table}
@@ -22,12 +22,12 @@ use Rattle.semantics.specs.Answers.Waiting.{delayedTo, DelayEdge, edge-delay, d
 use Rattle.semantics.specs.Answers.WaitingNodes.{delayed-place, delay-above}
 use Rattle.semantics.specs.Paths.Update.{Outside, Fresh, update-none, fresh-outside}
 use Rattle.reader.specs.declared.Table.{Table}
-use Rattle.reader.specs.Meaning.{conditionsFrom}
 use Rattle.reader.specs.Theorems.Access.{mode-at, mode-count, counts, lengths, ceilings-are}
 use Rattle.regions.specs.declared.Region.{Region}
 use Rattle.regions.specs.Held.{view}
 use Rattle.regions.specs.Nodes.{mostModes, CeilingsFew, Padded}
 use Rattle.regions.specs.Laws.Fields.{holds, top-is, price-at, top-few}
+use Rattle.search.specs.Rows.{conditionsAt}
 use Rattle.search.specs.Edges.{edgeTo, delayWeight, DelayAt, DelayDone}
 use Rattle.search.specs.Regions.{automatonOf, graphOf, placeOf, RegionAt, WaitsAt, DelaysAt, DelaysDone}
 use Rattle.search.proofs.Graphs.{searchable, searching-proper, region-top, region-indexed, corner-number, corner-below, searching-few, searching-padded}
@@ -79,13 +79,13 @@ module _ {t : Table} {l : ℕ} {region : Region} {nodes from mode over : ℕ} {d
   within-same : within (take (delayed .timers) ceilings) (view delayed) ≡ within (a .ceilings) (delayedTo p .region)
   within-same = ap₂ within ceilings-same (d .is-delayed)
 
-  conditions-same : conditionsFrom 0 (take 6 (drop (6 * mode) invariants)) ≡ modeAt a mode .conditions
+  conditions-same : conditionsAt invariants mode ≡ modeAt a mode .conditions
   conditions-same =
-      ap (λ (l : List ℕ). conditionsFrom 0 (take 6 (drop (6 * mode) l))) (d .waits .invariants-are)
+      ap (λ (l : List ℕ). conditionsAt l mode) (d .waits .invariants-are)
       ∙ sym (ap (λ (m : Mode). m .conditions) (mode-at t (d .waits .searching .is-table) mode (mode-there (d .waits))))
 
   meets-same :
-      meetsAll (conditionsFrom 0 (take 6 (drop (6 * mode) invariants))) (view delayed)
+      meetsAll (conditionsAt invariants mode) (view delayed)
       ≡ meetsAll (modeAt a mode .conditions) (delayedTo p .region)
   meets-same = ap₂ meetsAll conditions-same (d .is-delayed)
 
@@ -119,11 +119,11 @@ module _ {t : Table} {l : ℕ} {region : Region} {nodes from mode over : ℕ} {d
   delays-outside f = delays-none (λ j e x. let o = x .ceilings in let q = within-same in let z : _≡_ {A = ℕ} 0 1 = cc in omega arith)
 
   pub delays-unmet :
-      meetsAll (conditionsFrom 0 (take 6 (drop (6 * mode) invariants))) (view delayed) ≡ false → DelaysDone t l from region ws ws false
+      meetsAll (conditionsAt invariants mode) (view delayed) ≡ false → DelaysDone t l from region ws ws false
   delays-unmet f = delays-none (λ j e x. let o = x .conditions in let q = meets-same in let z : _≡_ {A = ℕ} 0 1 = cc in omega arith)
 
   module _ (inside : within (take (delayed .timers) ceilings) (view delayed) ≡ true)
-      (met : meetsAll (conditionsFrom 0 (take 6 (drop (6 * mode) invariants))) (view delayed) ≡ true) (to : ℕ)
+      (met : meetsAll (conditionsAt invariants mode) (view delayed) ≡ true) (to : ℕ)
       (first : to ≡ nodeNumber (take (delayed .timers) ceilings) (nodeOf mode (view delayed) 0)) where
     after : IsPlace a (delayedTo p)
     after = delayed-place a (searching-proper (d .waits .searching)) p here (sym within-same ∙ inside)

@@ -6,14 +6,14 @@ use mathlib.Core.List.{List}
 use Prim.Native.Nat.{ℕ, suc, _+_, _*_, _≤_, _<_}
 use native.Mathlib.Decide.{ℕ-discrete}
 use native.Mathlib.Omega.{arith}
-use lib.ListN.{length, getD, take, drop}
+use lib.ListN.{length, getD, take}
 use Rattle.semantics.specs.Region.{resetAll, meetsAll}
-use Rattle.semantics.specs.Path.{Edge, Graph}
+use Rattle.semantics.specs.Path.{Edge}
 use Rattle.semantics.specs.Node.{nodeNumber, nodeOf}
-use Rattle.semantics.specs.Paths.Update.{Update, Fresh, settled, stale, update-none, update-then, fresh-then}
+use Rattle.semantics.specs.Paths.Update.{Update, Fresh, update-none, update-then, fresh-then, fresh-wider}
 use Rattle.reader.specs.declared.Table.{Table}
 use Rattle.reader.specs.Fields.{mostPrice}
-use Rattle.reader.specs.Meaning.{conditionsFrom, namedTimers}
+use Rattle.reader.specs.Meaning.{namedTimers}
 use Rattle.reader.specs.Held.{IsTable}
 use Rattle.reader.specs.Theorems.Access.{lengths, counts, target-below, price-within}
 use Rattle.regions.specs.declared.Region.{Region}
@@ -21,6 +21,7 @@ use Rattle.regions.specs.Held.{view, pack, Valid}
 use Rattle.regions.specs.Nodes.{mostModes, CeilingsFew, Padded}
 use Rattle.regions.specs.Laws.Fields.{holds, top-few}
 use Rattle.regions.specs.Laws.Chain.{Gives, resetAll-gives}
+use Rattle.search.specs.Rows.{conditionsAt}
 use Rattle.search.specs.Edges.{edgeTo, MoveAt, MoveDone}
 use Rattle.search.specs.Regions.{graphOf, MovesAt, MovesDone}
 use Rattle.search.proofs.Graphs.{searchable, corner-below, searching-few, searching-padded}
@@ -36,13 +37,6 @@ pub record Readable (e : ℕ) (targets prices guards resets invariants : List �
   pub resets-there : e < length resets
   pub target-few : getD targets e 0 < mostModes
   pub invariant-there : 6 * getD targets e 0 + 6 ≤ length invariants
-
--- What is fresh is fresh if more is said to be stored.
-fresh-either :
-    {g : Graph} {lo hi : ℕ} {ws : List ℕ} {b : Bool} {v : ℕ} {x : Edge} (a : Bool) {c : Bool} → (a || b) ≡ c → Fresh g lo hi ws b v x
-    → Fresh g lo hi ws c v x
-fresh-either a flag (settled r) = settled r
-fresh-either a flag (stale s l h) = stale (rw (← flag, s) (or-true a)) l h
 
 -- The edges of the first k moves were relaxed.
 pub record MovedOver (t : Table) (l from : ℕ) (region : Region) (own : List ℕ) (k : ℕ) (ws ws′ : List ℕ) (changed : Bool) : Type 0 where
@@ -118,28 +112,28 @@ module _ {t : Table} {l mode nodes from : ℕ} {region : Region} {ceilings own t
 
       -- It is passed over at a condition of its own, or of its target.
       pub over-guard :
-          meetsAll (conditionsFrom 0 (take 6 (drop (6 * getD own k 0) guards))) (view region) ≡ false
+          meetsAll (conditionsAt guards (getD own k 0)) (view region) ≡ false
           → MovedOver t l from region own (k + 1) ws ws′ a
       over-guard f =
           over-skipped (guard-fails t is l mode from region (m .at-region) e (m .lent .listed k h) (rw (m .lent .guards-are) at f))
 
       module _ (moved : Region) (made : moved ≡ pack (resetAll (namedTimers (getD resets (getD own k 0) 0)) (view region))) where
         pub over-target :
-            meetsAll (conditionsFrom 0 (take 6 (drop (6 * getD targets (getD own k 0) 0) invariants))) (view moved) ≡ false
+            meetsAll (conditionsAt invariants (getD targets (getD own k 0) 0)) (view moved) ≡ false
             → MovedOver t l from region own (k + 1) ws ws′ a
         over-target f =
             over-skipped
             (target-fails t is l mode from region (m .at-region) e (m .lent .listed k h) moved (gives moved made)
             (rw (m .lent .invariants-are, m .lent .targets-are) at f))
 
-        module _ (guard : meetsAll (conditionsFrom 0 (take 6 (drop (6 * getD own k 0) guards))) (view region) ≡ true)
-            (invariant : meetsAll (conditionsFrom 0 (take 6 (drop (6 * getD targets (getD own k 0) 0) invariants))) (view moved) ≡ true)
+        module _ (guard : meetsAll (conditionsAt guards (getD own k 0)) (view region) ≡ true)
+            (invariant : meetsAll (conditionsAt invariants (getD targets (getD own k 0) 0)) (view moved) ≡ true)
             (to : ℕ) (number : to ≡ nodeNumber (take (moved .timers) ceilings) (nodeOf (getD targets (getD own k 0) 0) (view moved) 0)) where
           -- The same by the arrays of the table.
-          guard-met : meetsAll (conditionsFrom 0 (take 6 (drop (6 * getD own k 0) (t .guards)))) (view region) ≡ true
+          guard-met : meetsAll (conditionsAt (t .guards) (getD own k 0)) (view region) ≡ true
           guard-met = rw (m .lent .guards-are) at guard
 
-          target-met : meetsAll (conditionsFrom 0 (take 6 (drop (6 * getD (t .targets) (getD own k 0) 0) (t .invariants)))) (view moved) ≡ true
+          target-met : meetsAll (conditionsAt (t .invariants) (getD (t .targets) (getD own k 0) 0)) (view moved) ≡ true
           target-met = rw (m .lent .invariants-are, m .lent .targets-are) at invariant
 
           numbered : to ≡ nodeNumber (take (moved .timers) (t .ceilings)) (nodeOf (getD (t .targets) (getD own k 0) 0) (view moved) 0)
@@ -187,5 +181,6 @@ module _ {t : Table} {l mode nodes from : ℕ} {region : Region} {ceilings own t
               here :
                   (j : ℕ) (x : Edge) (i : ℕ) → i < k + 1 → EdgeOf t l from region (getD own i 0) j x → Dec (i ≡ k)
                   → Fresh (graphOf t l) from (from + suc (region .top)) ws″ c (from + j) x
-              here j x i n d (yes q) = fresh-either a flag (new j x (rw q at d))
+              here j x i n d (yes q) =
+                  fresh-wider from (from + suc (region .top)) (omega arith) (omega arith) (λ s. rw (← flag, s) (or-true a)) (new j x (rw q at d))
               here j x i n d (no q) = fresh-then (done .update) (from + j) x a flag (before .edges j x i (omega arith) d)

@@ -10,7 +10,7 @@ use lib.ListN.{length, getD, take, drop}
 use lib.Seq.{take-all}
 use Rattle.semantics.specs.Region.{PricedRegion, meetsAll}
 use Rattle.reader.specs.Meaning.{conditionsFrom}
-use Rattle.search.specs.Rows.{row-more, row-fails, row-byte, row-length}
+use Rattle.search.specs.Rows.{conditionsAt, row-more, row-fails, row-byte, row-length}
 
 module _ (r : PricedRegion) (bytes : List ℕ) (e : ℕ) (fits : 6 * e + 6 ≤ length bytes) where
   abbrev row : List ℕ
@@ -19,7 +19,7 @@ module _ (r : PricedRegion) (bytes : List ℕ) (e : ℕ) (fits : 6 * e + 6 ≤ l
   -- All six were tested.
   pub row-whole :
       (i : ℕ) → 6 ≤ i → meetsAll (conditionsFrom 0 (take i (take 6 (drop (6 * e) bytes)))) r ≡ true
-      → meetsAll (conditionsFrom 0 (take 6 (drop (6 * e) bytes))) r ≡ true
+      → meetsAll (conditionsAt bytes e) r ≡ true
   row-whole i h before = rw (take-all i row (omega (arith, row-length bytes e fits))) at before
 
   -- The test of byte i said b.
@@ -35,5 +35,5 @@ module _ (r : PricedRegion) (bytes : List ℕ) (e : ℕ) (fits : 6 * e + 6 ≤ l
         → meetsAll (conditionsFrom 0 (take (i + 1) (take 6 (drop (6 * e) bytes)))) r ≡ true
     row-next n before = row-more r row i there ∙ rw (before, sym tested ∙ not-false b n)
 
-    pub row-stops : not b ≡ true → meetsAll (conditionsFrom 0 (take 6 (drop (6 * e) bytes))) r ≡ false
+    pub row-stops : not b ≡ true → meetsAll (conditionsAt bytes e) r ≡ false
     row-stops n = row-fails r row i there (sym tested ∙ not-true b n)

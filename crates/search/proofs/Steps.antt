@@ -2,19 +2,17 @@
 -- Assumes nothing.
 use mathlib.Core.Path.{_≡_, refl, ap, sym, _∙_}
 use mathlib.Core.Bool.{true, false, _&&_}
-use mathlib.Core.List.{List}
 use mathlib.Core.Option.{Option, none, some}
 use Prim.Native.Nat.{ℕ, _+_, _*_, _≤_, _<_}
 use native.Mathlib.Omega.{arith}
 use borrow.Author.Tests.{lt-ltb, le-ltb, ne-eqb}
 use lib.Dec.{eqb}
-use lib.ListN.{length, getD, take, drop}
-use Rattle.semantics.specs.Condition.{Condition}
+use lib.ListN.{length, getD, take}
 use Rattle.semantics.specs.Automaton.{Automaton}
 use Rattle.semantics.specs.Region.{PricedRegion, delay, linger, resetAll, charge, meetsAll, within}
 use Rattle.semantics.specs.Chain.{Place, onlyIf, delayStep, lingerStep, moveStep, step}
 use Rattle.reader.specs.declared.Table.{Table}
-use Rattle.reader.specs.Meaning.{namedTimers, conditionsFrom}
+use Rattle.reader.specs.Meaning.{namedTimers}
 use Rattle.reader.specs.Held.{IsTable}
 use Rattle.reader.specs.Theorems.Access.{counts, lengths, mode-count, timer-count, move-count, mode-at, move-at}
 use Rattle.reader.specs.Theorems.Access.{rate-within, price-within, target-below, ceilings-are}
@@ -25,14 +23,12 @@ use Rattle.regions.specs.Laws.Chain.{Gives, delay-gives, charge-gives, resetAll
 use Rattle.regions.specs.Laws.Room.{less-room, resetAll-price-room}
 use Rattle.regions.specs.Laws.Fields.{holds, timers-is}
 use Rattle.regions.specs.Laws.Nodes.{table-padded}
+use Rattle.search.specs.Edges.{mostWeight}
+use Rattle.search.specs.Rows.{conditionsAt}
 use Rattle.search.specs.declared.places.Place.{Place as PlaceHeld}
 use Rattle.search.specs.Regions.{automatonOf}
 use Rattle.search.proofs.Graphs.{place-whole-room}
 use Rattle.search.specs.Places.{viewPlace, packStep, PlaceAt, StepRoom}
-
--- The conditions of a row.
-abbrev pub row : List ℕ → ℕ → List Condition
-row bytes n = conditionsFrom 0 (take 6 (drop (6 * n) bytes))
 
 -- The region after the move e, by the table's arrays.
 abbrev pub moved : Table → ℕ → PricedRegion → PricedRegion
@@ -68,7 +64,7 @@ module _ (t : Table) (h : IsTable t) (s : PlaceHeld) (p : PlaceAt t s) where
 
   -- Prices have room for the rate.
   pub rate-room : StepRoom s → PriceRoom (getD (t .rates) (s .mode) 0) (view (s .region))
-  rate-room r = less-room (view (s .region)) _ 65535 (omega (arith, rate-within t h (s .mode))) r
+  rate-room r = less-room (view (s .region)) _ mostWeight (omega (arith, rate-within t h (s .mode))) r
 
   -- There is a row of conditions for each mode, and for each move.
   pub mode-row : (m : ℕ) → m < t .modes → 6 * m + 6 ≤ length (t .invariants)
@@ -87,23 +83,23 @@ module _ (t : Table) (h : IsTable t) (s : PlaceHeld) (p : PlaceAt t s) where
 
     delay-is :
         delayStep (automatonOf t) (viewPlace s)
-        ≡ onlyIf (meetsAll (row (t .invariants) (s .mode)) (view d) && within (take (d .timers) (t .ceilings)) (view d)) (record { mode = s .mode; region = view d })
+        ≡ onlyIf (meetsAll (conditionsAt (t .invariants) (s .mode)) (view d) && within (take (d .timers) (t .ceilings)) (view d)) (record { mode = s .mode; region = view d })
     unfolding delayStep
     delay-is =
         rw (mode-at t h (s .mode) mode-below, delay-seen .seen, delay-seen .timers, timers-are, ceilings-are t h) refl
 
     pub delay-unmet :
-        meetsAll (row (t .invariants) (s .mode)) (view d) ≡ false
+        meetsAll (conditionsAt (t .invariants) (s .mode)) (view d) ≡ false
         → record { allowed = false; place = s } ≡ packStep s (delayStep (automatonOf t) (viewPlace s))
     delay-unmet m = refused s _ (delay-is ∙ rw m refl)
 
     pub delay-above :
-        meetsAll (row (t .invariants) (s .mode)) (view d) ≡ true → within (take (d .timers) (t .ceilings)) (view d) ≡ false
+        meetsAll (conditionsAt (t .invariants) (s .mode)) (view d) ≡ true → within (take (d .timers) (t .ceilings)) (view d) ≡ false
         → record { allowed = false; place = s } ≡ packStep s (delayStep (automatonOf t) (viewPlace s))
     delay-above m w = refused s _ (delay-is ∙ rw (m, w) refl)
 
     pub delay-allowed :
-        meetsAll (row (t .invariants) (s .mode)) (view d) ≡ true → within (take (d .timers) (t .ceilings)) (view d) ≡ true
+        meetsAll (conditionsAt (t .invariants) (s .mode)) (view d) ≡ true → within (take (d .timers) (t .ceilings)) (view d) ≡ true
         → record { allowed = true; place = record { mode = s .mode; region = d } } ≡ packStep s (delayStep (automatonOf t) (viewPlace s))
     delay-allowed m w = allowed s _ (s .mode) d delay-valid (delay-is ∙ rw (m, w) refl)
 
@@ -124,8 +120,8 @@ module _ (t : Table) (h : IsTable t) (s : PlaceHeld) (p : PlaceAt t s) where
     move-is :
         moveStep (automatonOf t) e (viewPlace s)
         ≡ onlyIf
-        (eqb (getD (t .sources) e 0) (s .mode) && meetsAll (row (t .guards) e) (view (s .region))
-        && meetsAll (row (t .invariants) (getD (t .targets) e 0)) (moved t e (view (s .region))))
+        (eqb (getD (t .sources) e 0) (s .mode) && meetsAll (conditionsAt (t .guards) e) (view (s .region))
+        && meetsAll (conditionsAt (t .invariants) (getD (t .targets) e 0)) (moved t e (view (s .region))))
         (record { mode = getD (t .targets) e 0; region = moved t e (view (s .region)) })
     unfolding moveStep
     move-is =
@@ -137,7 +133,7 @@ module _ (t : Table) (h : IsTable t) (s : PlaceHeld) (p : PlaceAt t s) where
     move-elsewhere o = refused s _ (move-is ∙ rw o refl)
 
     pub move-unmet :
-        eqb (getD (t .sources) e 0) (s .mode) ≡ true → meetsAll (row (t .guards) e) (view (s .region)) ≡ false
+        eqb (getD (t .sources) e 0) (s .mode) ≡ true → meetsAll (conditionsAt (t .guards) e) (view (s .region)) ≡ false
         → record { allowed = false; place = s } ≡ packStep s (moveStep (automatonOf t) e (viewPlace s))
     move-unmet o g = refused s _ (move-is ∙ rw (o, g) refl)
 
@@ -152,8 +148,8 @@ module _ (t : Table) (h : IsTable t) (s : PlaceHeld) (p : PlaceAt t s) where
       pub price-room : StepRoom s → PriceRoom (getD (t .prices) e 0) (view k)
       price-room r =
           let cleared = resetAll (namedTimers (getD (t .resets) e 0)) (view (s .region)) in
-          let kept = resetAll-price-room (namedTimers (getD (t .resets) e 0)) (view (s .region)) 65535 r in
-          rw (cleared-seen .seen) (less-room cleared (getD (t .prices) e 0) 65535 (omega (arith, price-within t h e)) kept)
+          let kept = resetAll-price-room (namedTimers (getD (t .resets) e 0)) (view (s .region)) mostWeight r in
+          rw (cleared-seen .seen) (less-room cleared (getD (t .prices) e 0) mostWeight (omega (arith, price-within t h e)) kept)
 
       module _ (m : Region) (d : m ≡ pack (charge (getD (t .prices) e 0) (view k))) where
         charged-seen : Gives (k .timers) m (charge (getD (t .prices) e 0) (view k))
@@ -165,14 +161,14 @@ module _ (t : Table) (h : IsTable t) (s : PlaceHeld) (p : PlaceAt t s) where
         moved-is : moved t e (view (s .region)) ≡ view m
         moved-is = sym (charged-seen .seen ∙ ap (charge (getD (t .prices) e 0)) (cleared-seen .seen))
 
-        module _ (o : eqb (getD (t .sources) e 0) (s .mode) ≡ true) (g : meetsAll (row (t .guards) e) (view (s .region)) ≡ true) where
+        module _ (o : eqb (getD (t .sources) e 0) (s .mode) ≡ true) (g : meetsAll (conditionsAt (t .guards) e) (view (s .region)) ≡ true) where
           pub move-refused :
-              meetsAll (row (t .invariants) (getD (t .targets) e 0)) (view m) ≡ false
+              meetsAll (conditionsAt (t .invariants) (getD (t .targets) e 0)) (view m) ≡ false
               → record { allowed = false; place = s } ≡ packStep s (moveStep (automatonOf t) e (viewPlace s))
           move-refused i = refused s _ (move-is ∙ rw (moved-is, o, g, i) refl)
 
           pub move-allowed :
-              meetsAll (row (t .invariants) (getD (t .targets) e 0)) (view m) ≡ true
+              meetsAll (conditionsAt (t .invariants) (getD (t .targets) e 0)) (view m) ≡ true
               → record { allowed = true; place = record { mode = getD (t .targets) e 0; region = m } }
               ≡ packStep s (moveStep (automatonOf t) e (viewPlace s))
           move-allowed i = allowed s _ (getD (t .targets) e 0) m charged-valid (move-is ∙ rw (moved-is, o, g, i) refl)

@@ -12,8 +12,13 @@ use borrow.Author.Tests.{eq-eqb, ne-eqb}
 use lib.Dec.{eqb}
 use lib.ListN.{length, getD, take, drop, length-take, length-drop}
 use lib.Seq.{getD-take, getD-drop}
+use Rattle.semantics.specs.Condition.{Condition}
 use Rattle.semantics.specs.Region.{PricedRegion, meets, meetsAll}
 use Rattle.reader.specs.Meaning.{conditionOf, conditionsFrom}
+
+-- The conditions of a row: six bytes for each mode and move.
+abbrev pub conditionsAt : List ℕ → ℕ → List Condition
+conditionsAt bytes row = conditionsFrom 0 (take 6 (drop (6 * row) bytes))
 
 module _ (r : PricedRegion) where
   -- The region meets the condition byte at a place.

@@ -2,15 +2,14 @@
 -- Assumes nothing.
 use mathlib.Core.Path.{_≡_, sym, _∙_}
 use mathlib.Core.Bool.{true}
-use Prim.Native.Nat.{_*_}
 use native.Mathlib.Omega.{arith}
 use denote.Ref.{now}
-use lib.ListN.{take, drop}
+use lib.ListN.{take}
 use borrow.Author.Needs.{needs}
 use borrow.Author.Tests.{not-true, not-false}
 use Rattle.semantics.specs.Region.{meetsAll, within}
-use Rattle.reader.specs.Meaning.{conditionsFrom}
 use Rattle.regions.specs.Held.{view}
+use Rattle.search.specs.Rows.{conditionsAt}
 use Rattle.search.specs.Regions.{graphOf}
 use Rattle.search.proofs.RegionDelays.{row-there, ceilings-few, ceilings-padded, delays-outside, delays-unmet, delays-ready, delays-done}
 use Rattle.search.proofs.waits.relax_delays.Statement.{statement}
@@ -45,8 +44,7 @@ inside c = sym (c .before .within .ensures) ∙ not-false _ (c .if1 .left)
 
 met :
     (c : tie.Else2)
-    → meetsAll (conditionsFrom 0 (take 6 (drop (6 * c .before .before .before .before .before .before .args .mode)
-    (now (c .before .before .before .before .before .before .args .invariants)))))
+    → meetsAll (conditionsAt (now (c .before .before .before .before .before .before .args .invariants)) (c .before .before .before .before .before .before .args .mode))
     (view (c .before .before .before .before .before .before .args .delayed))
     ≡ true
 met c = sym (c .before .hold-all .ensures) ∙ not-false _ (c .if2 .left)

@@ -13,6 +13,7 @@ use Rattle.semantics.specs.Region.{meetsAll}
 use Rattle.reader.specs.declared.Table.{Table}
 use Rattle.reader.specs.Meaning.{conditionsFrom}
 use Rattle.regions.specs.Held.{view, Valid}
+use Rattle.search.specs.Rows.{conditionsAt}
 use Rattle.search.specs.Edges.{MoveAt}
 use Rattle.search.specs.Regions.{graphOf, MovesAt}
 use Rattle.search.proofs.RowTests.{row-whole}
@@ -87,7 +88,7 @@ valid c =
 -- All conditions of the move hold.
 pub guard :
     (c : Reset)
-    → meetsAll (conditionsFrom 0 (take 6 (drop (6 * move (turn c)) (now (start (turn c) .args .guards))))) (view (start (turn c) .args .region)) ≡ true
+    → meetsAll (conditionsAt (now (start (turn c) .args .guards)) (move (turn c))) (view (start (turn c) .args .region)) ≡ true
 guard c =
     let args = start (turn c) .args in
     let at-loop = c .before .before .before .before in
@@ -101,7 +102,7 @@ still c = c .loop2 .inv .0 ∙ c .before .before .before .before .before .loop .
 -- All conditions of the target hold.
 pub invariant :
     (c : tie.After-loop2 Inv-loop μ-loop Inv-loop2 μ-loop2 Inv-moves μ-moves)
-    → meetsAll (conditionsFrom 0 (take 6 (drop (6 * target (c .before .before)) (now (start (turn (c .before .before)) .args .invariants)))))
+    → meetsAll (conditionsAt (now (start (turn (c .before .before)) .args .invariants)) (target (c .before .before)))
     (view (c .before .before .before .reset-all .result)) ≡ true
 invariant c =
     let reset = c .before .before in

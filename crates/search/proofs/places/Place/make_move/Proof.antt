@@ -11,7 +11,8 @@ use lib.ListN.{getD}
 use Rattle.semantics.specs.Region.{meetsAll}
 use Rattle.reader.specs.Theorems.Access.{counts, price-within, target-below}
 use Rattle.regions.specs.Held.{view, Valid}
-use Rattle.search.proofs.Steps.{row, mode-row, move-row, move-missing, move-elsewhere, move-unmet}
+use Rattle.search.specs.Rows.{conditionsAt}
+use Rattle.search.proofs.Steps.{mode-row, move-row, move-missing, move-elsewhere, move-unmet}
 use Rattle.search.proofs.Steps.{cleared-valid, price-room, charged-valid, move-refused, move-allowed}
 use Rattle.search.proofs.places.Place.make_move.Statement.{statement}
 use Rattle.search.proofs.places.Place.make_move.Tie as tie
@@ -42,7 +43,7 @@ own c =
 
 met :
     (c : tie.Else3)
-    → meetsAll (row (start-of c .args .t2 .guards) (start-of c .args .number)) (view (start-of c .args .self .region)) ≡ true
+    → meetsAll (conditionsAt (start-of c .args .t2 .guards) (start-of c .args .number)) (view (start-of c .args .self .region)) ≡ true
 met c = sym (c .before .hold-all .ensures) ∙ not-false _ (c .if3 .left)
 
 -- The struct after the charge.

@@ -5,3 +5,5 @@ pub mod Promise
 pub mod Choose
 -- The outcome of the definitions keeps demand 3.
 pub mod Keeps
+-- The numbers of refusals.
+pub mod Refusals

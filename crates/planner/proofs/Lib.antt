@@ -1,0 +1,2 @@
+-- What the proof of the exported call uses.
+pub mod Telling

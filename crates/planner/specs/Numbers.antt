@@ -1,0 +1,18 @@
+-- An answer in plain numbers, as include/planner.h documents it.
+-- Assumes nothing.
+use mathlib.Core.Path.{_≡_}
+use mathlib.Core.Logic.{_≢_}
+use mathlib.Core.Bool.{cond}
+use Prim.Native.Nat.{ℕ}
+use lib.Dec.{eqb}
+use Rattle.route.specs.declared.Answer.{Answer}
+use Rattle.route.specs.declared.Answer.the-variants.{Refused, NoRoute, Route}
+
+-- The answer that the numbers stand for: 0 is a route with its charge and its number of steps, 255 no route, and any other number the
+-- refusal of that number.
+unfoldable pub decoded : (number charge steps : ℕ) → Answer
+decoded number charge steps = cond (eqb number 0) (Route charge steps) (cond (eqb number 255) NoRoute (Refused number))
+
+-- "A refusal returns its number only", and so does no route: what was there stays.
+abbrev pub Untouched : (number before after : ℕ) → Type 0
+Untouched number before after = number ≢ 0 → after ≡ before

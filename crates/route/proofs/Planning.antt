@@ -26,7 +26,7 @@ use Rattle.search.specs.declared.Searched.{Searched}
 use Rattle.search.specs.declared.Searched.the-variants.{Nodes as Searched·Nodes, Refused as Searched·Refused}
 use Rattle.search.specs.Regions.{automatonOf}
 use Rattle.search.specs.Outcome.{answered, searched, cleared}
-use Rattle.search.specs.Laws.Chains.{searched-least}
+use Rattle.search.specs.Laws.Chains.{searched-best}
 use Rattle.search.specs.Laws.Answers.{answer-fits, searched-refused, searched-nodes, cleared-nodes}
 use Rattle.route.specs.declared.Answer.{Answer}
 use Rattle.route.specs.declared.Answer.the-variants.{Refused}
@@ -101,7 +101,7 @@ module _ (t : Table) (ws : List ℕ) where
         is-table = k;
         few = few;
         room = omega (arith, searched-length a (t .goal) ws n e);
-        least = searched-least t k (t .goal) ws few room;
+        best = searched-best t k (t .goal) ws few room;
       })
 
   -- A refusal before the search.

@@ -52,7 +52,7 @@ start-free n (suc j) = refl
 
 -- What the words of a search say of the answer.
 pub found-reading : {t : Table} {ws : List ℕ} → Found t ws → Reading (automatonOf t) (t .goal) ws
-found-reading {t} {ws} f = reading (automatonOf t) (table-proper t (f .is-table)) (t .goal) ws (f .least)
+found-reading {t} {ws} f = reading (automatonOf t) (table-proper t (f .is-table)) (t .goal) ws (f .best)
 
 module _ {t : Table} {ws : List ℕ} {charge steps : ℕ} (rs : List ℕ) (h : Reached t ws charge steps (length rs)) where
   known : startCharge (automatonOf t) ws ≢ infinity

@@ -7,7 +7,9 @@ use mathlib.Core.Option.{some}
 use Prim.Native.Nat.{ℕ, _*_, _≤_, _<_}
 use lib.ListN.{length, drop}
 use Rattle.semantics.specs.Node.{nodeCount}
-use Rattle.semantics.specs.Path.{cost, LeastCosts, infinity, table}
+use Rattle.semantics.specs.Path.{cost, infinity, table}
+use Rattle.semantics.specs.CornerGraph.{startNode}
+use Rattle.semantics.specs.Paths.Onto.{BestCosts}
 use Rattle.semantics.specs.Chain.{Place, step}
 use Rattle.semantics.specs.Answer.{route, answer}
 use Rattle.semantics.specs.Answers.Reading.{startCharge, startSteps, CanComplete, Chosen}
@@ -27,7 +29,7 @@ pub record Found (t : Table) (ws : List ℕ) : Type 0 where
   pub is-table : IsTable t
   pub few : nodeCount (automatonOf t) ≤ mostNodes
   pub room : 2 * nodeCount (automatonOf t) ≤ length ws
-  pub least : LeastCosts (graphOf t (t .goal)) (table ws)
+  pub best : BestCosts (graphOf t (t .goal)) (startNode (automatonOf t)) (table ws)
 
 -- From the place some step leads to a place from which the charge is completed with so many steps left.
 pub record Onward (t : Table) (ws : List ℕ) (s : PlaceHeld) (charge left : ℕ) : Type 0 where

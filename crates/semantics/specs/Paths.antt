@@ -24,6 +24,16 @@ pub mod Update
 pub mod Sweep
 pub mod Seed
 pub mod Settle
+-- Found forwards from a node, and the nodes on best paths from it.
+pub mod Turned
+pub mod Spread
+pub mod Ahead
+pub mod Traced
+pub mod Levels
+pub mod Mark
+pub mod Kept
+pub mod Onto
+pub mod Priced
 -- The distance as a function.
 pub mod UpTo
 pub mod Computed

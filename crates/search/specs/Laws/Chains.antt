@@ -17,8 +17,8 @@ use Rattle.semantics.specs.Region.{PricedRegion, top}
 use Rattle.semantics.specs.Corner.{countFrom}
 use Rattle.semantics.specs.Node.{nodeCount}
 use Rattle.semantics.specs.Chain.{Place, begin, step}
-use Rattle.semantics.specs.CornerGraph.{numberOf}
-use Rattle.semantics.specs.Path.{Cost, LeastCosts, infinity, chargeAt, stepsAt, table}
+use Rattle.semantics.specs.CornerGraph.{numberOf, startNode}
+use Rattle.semantics.specs.Path.{Cost, infinity, chargeAt, stepsAt, table}
 use Rattle.semantics.specs.Distance.{distanceWords}
 use Rattle.semantics.specs.Regions.Compare.{and-true-iff}
 use Rattle.semantics.specs.Regions.Lengths.{prices-top}
@@ -29,6 +29,7 @@ use Rattle.semantics.specs.Bounds.Flow.{step-flow}
 use Rattle.semantics.specs.Paths.Least.{least-charge}
 use Rattle.semantics.specs.Paths.UpTo.{distance-least}
 use Rattle.semantics.specs.Paths.Found.{found-least}
+use Rattle.semantics.specs.Paths.Onto.{BestCosts, least-best}
 use Rattle.semantics.specs.Answers.Places.{IsPlace, reached-place, place-step}
 use Rattle.semantics.specs.Answers.Edges.{step-edge}
 use Rattle.semantics.specs.Answers.Graph.{graph-nodes, graph-closed, graph-weights}
@@ -179,12 +180,12 @@ completes-iff t ws p c =
       (λ k. some-completes a ws p c n 0 (k .corner) (omega arith) (omega (arith, k .there)) (can-corner a ws p c k)),
     )
 
--- The words of a search hold the least costs.
-pub searched-least :
+-- The words of a search hold the least costs, those of the nodes on best paths from the start among them.
+pub searched-best :
     (t : Table) → IsTable t → (l : ℕ) (ws : List ℕ) → nodeCount (automatonOf t) ≤ mostNodes → 2 * nodeCount (automatonOf t) ≤ length ws
-    → LeastCosts (graphOf t l) (table (searched (automatonOf t) l ws))
+    → BestCosts (graphOf t l) (startNode (automatonOf t)) (table (searched (automatonOf t) l ws))
 unfolding searched
-searched-least t h l ws few room =
+searched-best t h l ws few room =
     let a = automatonOf t in
     let g = graphOf t l in
     let ok = table-proper t h in
@@ -192,5 +193,6 @@ searched-least t h l ws few room =
     let light = graph-weights a l ok mostPrice (amounts-within t h) in
     let found : searched a l ws ≡ distanceWords g ++ drop (2 * nodeCount a) ws =
     rw (le-leb (nodeCount a) mostNodes few, le-leb (2 * nodeCount a) (length ws) room) refl in
-    found-least g (searched a l ws) closed (drop (2 * nodeCount a) ws) found
-    (λ v c b q e. omega (arith, least-charge g closed v b c (distance-least g closed .least v c b q) mostPrice light, graph-nodes a l, e))
+    least-best (startNode a)
+    (found-least g (searched a l ws) closed (drop (2 * nodeCount a) ws) found
+    (λ v c b q e. omega (arith, least-charge g closed v b c (distance-least g closed .least v c b q) mostPrice light, graph-nodes a l, e)))

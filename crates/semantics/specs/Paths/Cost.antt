@@ -1,6 +1,6 @@
 -- The order of costs, by charge and then by steps: a total order, kept by an edge before both sides, with induction over it.
 -- Assumes nothing.
-use mathlib.Core.Path.{_≡_}
+use mathlib.Core.Path.{_≡_, sym, subst}
 use mathlib.Core.Logic.{_⊎_, inl, inr}
 use Prim.Native.Nat.{ℕ, zero, suc, _≤_, _<_}
 use native.Mathlib.Nat.{le-refl}
@@ -20,6 +20,10 @@ cost-antisymm a b (inl x) (inr y) = absurd (omega arith)
 cost-antisymm a b (inr x) (inl y) = absurd (omega arith)
 cost-antisymm a b (inr x) (inr y) = let s : a .steps ≡ b .steps = omega arith in λ i. record { charge = x .0 i; steps = s i }
 
+-- Costs of the same charge and the same steps are the same.
+pub cost-same : (a b : Cost) → a .charge ≡ b .charge → a .steps ≡ b .steps → a ≡ b
+cost-same a b x y = λ i. record { charge = x i; steps = y i }
+
 pub cost-total : (a b : Cost) → (a ≼ b) ⊎ (b ≺ a)
 cost-total a b = at (decLt (a .charge) (b .charge)) (decLt (b .charge) (a .charge)) (decLt (b .steps) (a .steps))
   where
@@ -32,6 +36,20 @@ cost-total a b = at (decLt (a .charge) (b .charge)) (decLt (b .charge) (a .charg
 pub cost-weaken : (a b : Cost) → a ≺ b → a ≼ b
 cost-weaken a b (inl x) = inl x
 cost-weaken a b (inr x) = inr (omega arith)
+
+-- A cost may be put for one that is the same, on either side.
+pub same-less : (a b c : Cost) → a ≡ b → b ≼ c → a ≼ c
+same-less a b c e h = subst (λ (x : Cost). x ≼ c) (sym e) h
+
+pub less-same : (a b c : Cost) → a ≼ b → b ≡ c → a ≼ c
+less-same a b c h e = subst (λ (x : Cost). a ≼ x) e h
+
+-- Less than what is at most a cost is less than it.
+pub less-trans : (a b c : Cost) → a ≺ b → b ≼ c → a ≺ c
+less-trans a b c (inl x) (inl y) = inl (omega arith)
+less-trans a b c (inl x) (inr y) = inl (omega arith)
+less-trans a b c (inr x) (inl y) = inl (omega arith)
+less-trans a b c (inr x) (inr y) = inr (omega arith)
 
 pub not-both : (a b : Cost) → a ≼ b → b ≺ a → ⊥
 not-both a b (inl x) (inl y) = omega arith

@@ -16,16 +16,16 @@ use Rattle.semantics.specs.Paths.Update.{Blank}
 use Rattle.semantics.specs.Paths.UpTo.{distance-least}
 
 -- The two words of node v.
-abbrev wordsAt : List ℕ → ℕ → List ℕ
+abbrev pub wordsAt : List ℕ → ℕ → List ℕ
 wordsAt ws v = chargeAt ws v ∷ stepsAt ws v ∷ []
 
 -- The table has an entry: the words of the node are those of the entry.
-entry-words : (ws : List ℕ) (v : ℕ) → Blank ws v → (x : Entry) → table ws v ≡ x → wordsAt ws v ≡ entryWords x
+pub entry-words : (ws : List ℕ) (v : ℕ) → Blank ws v → (x : Entry) → table ws v ≡ x → wordsAt ws v ≡ entryWords x
 entry-words ws v b unreached q = let c = unreached-words ws v q in ap₂ (λ (k n : ℕ). k ∷ n ∷ []) c (b c)
 entry-words ws v b (reached c) q = let w = reached-words ws v c q in ap₂ (λ (k n : ℕ). k ∷ n ∷ []) (w .charge) (w .steps)
 
 -- And the other way round, if no charge is infinity.
-words-entry : (ws : List ℕ) (v : ℕ) (x : Entry) → ((c : Cost) → x ≡ reached c → c .charge ≢ infinity) → wordsAt ws v ≡ entryWords x → table ws v ≡ x
+pub words-entry : (ws : List ℕ) (v : ℕ) (x : Entry) → ((c : Cost) → x ≡ reached c → c .charge ≢ infinity) → wordsAt ws v ≡ entryWords x → table ws v ≡ x
 words-entry ws v unreached known e = table-unreached ws v (ap (λ (l : List ℕ). getD l 0 0) e)
 words-entry ws v (reached c) known e =
     let charge : chargeAt ws v ≡ c .charge = ap (λ (l : List ℕ). getD l 0 0) e in
@@ -41,11 +41,11 @@ later-words x y ws v =
 
 -- The words of the entries that d gives to n nodes from i on.
 module _ (d : ℕ → Entry) where
-  abbrev wordsOf : ℕ → ℕ → List ℕ
+  abbrev pub wordsOf : ℕ → ℕ → List ℕ
   wordsOf i n = flatMap (λ v. entryWords (d v)) (countFrom i n)
 
   -- Words that are theirs node by node begin with them.
-  words-gathered :
+  pub words-gathered :
       (n i : ℕ) (ws : List ℕ) → 2 * n ≤ length ws → ((v : ℕ) → v < n → wordsAt ws v ≡ entryWords (d (i + v)))
       → ws ≡ wordsOf i n ++ drop (2 * n) ws
   words-gathered zero i ws room h = refl
@@ -72,7 +72,7 @@ module _ (d : ℕ → Entry) where
   later-of unreached l rest v = later-words infinity infinity (l ++ rest) v
   later-of (reached c) l rest v = later-words (c .charge) (c .steps) (l ++ rest) v
 
-  words-scattered : (n i : ℕ) (rest : List ℕ) (v : ℕ) → v < n → wordsAt (wordsOf i n ++ rest) v ≡ entryWords (d (i + v))
+  pub words-scattered : (n i : ℕ) (rest : List ℕ) (v : ℕ) → v < n → wordsAt (wordsOf i n ++ rest) v ≡ entryWords (d (i + v))
   words-scattered zero i rest v h = absurd (omega arith)
   words-scattered (suc n) i rest zero h =
       let same : i ≡ i + 0 = omega arith in

@@ -1,0 +1,247 @@
+//! Measures the three planners side by side.
+
+use crate::measure::{heap_bytes, instructions, stack_bytes};
+use crate::paper::{self, Outcome};
+use crate::table::{node_count, read};
+use crate::{dijkstra, proved};
+use std::hint::black_box;
+use std::process::ExitCode;
+use std::time::{Duration, Instant};
+
+macro_rules! tables {
+    ($($name:literal)*) => {
+        [$(($name, include_str!(concat!("../../tables/", $name, ".hex")))),*]
+    };
+}
+
+/// The tables that are measured: name, and bytes in hexadecimal with comments after `#`.
+const TABLES: [(&str, &str); 16] = tables![
+    "T" "figure-2"
+    "one-timer-narrow-24" "one-timer-narrow-64" "one-timer-wide-24" "one-timer-wide-64"
+    "unit-24" "unit-64" "two-timers-wide-24" "two-timers-wide-64"
+    "three-timers-narrow-24" "three-timers-narrow-64" "three-timers-wide-24" "three-timers-wide-64"
+    "largest-narrow-64" "largest-wide-64"
+];
+
+/// The route bytes lent, as many as the unit lends.
+const ROUTE_BYTES: usize = 256;
+/// States that the paper's algorithm takes from WAITING before it gives up: some seconds.
+const MOST_ROUNDS: u64 = 20_000_000;
+/// How long each table is timed for, unless so many runs were made before.
+const TIMED_FOR: Duration = Duration::from_secs(2);
+const MOST_RUNS: usize = 10_000;
+
+fn bytes(text: &str) -> Vec<u8> {
+    let lines = text.lines().map(|line| line.split('#').next().unwrap_or(""));
+    let byte = |hex| u8::from_str_radix(hex, 16).expect("a table's bytes are hexadecimal");
+    lines.flat_map(str::split_whitespace).map(byte).collect()
+}
+
+#[derive(Clone, Copy, PartialEq, Eq)]
+enum Planner {
+    Proved,
+    Dijkstra,
+    Paper,
+}
+
+const PLANNERS: [Planner; 3] = [Planner::Proved, Planner::Dijkstra, Planner::Paper];
+
+impl Planner {
+    fn name(self) -> &'static str {
+        match self {
+            Planner::Proved => "proved",
+            Planner::Dijkstra => "Dijkstra",
+            Planner::Paper => "paper",
+        }
+    }
+}
+
+/// A call of a planner, with the memory that it is lent and what came out of it last.
+struct Call {
+    planner: Planner,
+    bytes: Vec<u8>,
+    words: Vec<u32>,
+    route: [u8; ROUTE_BYTES],
+    steps: usize,
+    outcome: Outcome,
+}
+
+impl Call {
+    fn new(planner: Planner, bytes: &[u8], nodes: u64) -> Call {
+        Call {
+            planner,
+            bytes: bytes.to_vec(),
+            words: vec![0; 2 * nodes as usize],
+            route: [0; ROUTE_BYTES],
+            steps: 0,
+            outcome: Outcome::GaveUp,
+        }
+    }
+
+    /// Makes the call. The paper's algorithm starts from a table that was read.
+    fn make(&mut self) {
+        let bytes = black_box(&self.bytes);
+        let outcome = match self.planner {
+            Planner::Proved => {
+                let mut charge = 0;
+                let (words, route) = (&mut self.words, &mut self.route);
+                match proved::plan(bytes, words, route, &mut charge, &mut self.steps) {
+                    proved::ROUTE => Outcome::Charge(charge),
+                    _ => Outcome::Unreachable,
+                }
+            }
+            Planner::Dijkstra => match dijkstra::plan(bytes, self.words.len(), ROUTE_BYTES) {
+                dijkstra::Answer::Route { charge, .. } => Outcome::Charge(charge),
+                _ => Outcome::Unreachable,
+            },
+            Planner::Paper => read(bytes)
+                .map_or(Outcome::GaveUp, |table| paper::least_charge(&table, MOST_ROUNDS)),
+        };
+        self.outcome = black_box(outcome);
+    }
+}
+
+/// The name of the function in which valgrind counts.
+const MEASURED: &str = "peer_measured";
+
+#[inline(never)]
+#[no_mangle]
+extern "C" fn peer_measured(call: &mut Call) {
+    call.make();
+}
+
+/// Makes a first call outside of what is measured, of T, and one inside. It is run by valgrind.
+pub fn measured(table: &str, planner: &str) -> ExitCode {
+    let planner = PLANNERS.into_iter().find(|known| known.name() == planner);
+    let text = TABLES.into_iter().find(|(name, _)| *name == table);
+    let (Some(planner), Some((_, text))) = (planner, text) else { return ExitCode::from(2) };
+    let call = |text| {
+        let bytes = bytes(text);
+        let nodes = read(&bytes).map_or(0, |table| node_count(&table));
+        Call::new(planner, &bytes, nodes)
+    };
+    call(TABLES[0].1).make();
+    peer_measured(&mut call(text));
+    ExitCode::SUCCESS
+}
+
+/// Measures every table and prints one table of all.
+pub fn run() -> ExitCode {
+    let mut rows = vec![heading()];
+    for (name, text) in TABLES {
+        match row(name, &bytes(text)) {
+            Ok(row) => rows.push(row),
+            Err(difference) => {
+                println!("DIFFERENCE: {name}: {difference}");
+                return ExitCode::FAILURE;
+            }
+        }
+    }
+    print(&rows);
+    ExitCode::SUCCESS
+}
+
+fn heading() -> Vec<String> {
+    let mut cells = ["table", "E", "moves", "steps"].map(String::from).to_vec();
+    for planner in PLANNERS {
+        let memory = if planner == Planner::Proved { "lent" } else { "heap" };
+        for what in ["instructions", "µs", "stack", memory] {
+            cells.push(format!("{} {what}", planner.name()));
+        }
+    }
+    cells
+}
+
+/// What is measured of one table; an error tells charges that differ.
+fn row(name: &str, bytes: &[u8]) -> Result<Vec<String>, String> {
+    let table = read(bytes).map_err(|number| format!("refused {number}"))?;
+    let nodes = node_count(&table);
+    let mut calls = PLANNERS.map(|planner| Call::new(planner, bytes, nodes));
+    calls.iter_mut().for_each(Call::make);
+    let outcomes = calls.each_ref().map(|call| call.outcome);
+    let agrees = |other| other == outcomes[0] || other == Outcome::GaveUp;
+    if !matches!(outcomes[0], Outcome::Charge(_)) || !outcomes.into_iter().all(agrees) {
+        return Err(format!("{outcomes:?}"));
+    }
+    let counts = [nodes, table.moves.len() as u64, calls[0].steps as u64];
+    let mut cells = vec![name.into()];
+    cells.extend(counts.map(grouped));
+    let times = best_times(&mut calls);
+    for (call, time) in calls.iter_mut().zip(times) {
+        if call.outcome == Outcome::GaveUp {
+            cells.extend(["gave up", "-", "-", "-"].map(String::from));
+            continue;
+        }
+        let counted = instructions(MEASURED, &["measured", name, call.planner.name()]);
+        cells.push(counted.map_or("-".into(), grouped));
+        cells.push(format!("{:.1}", time.as_secs_f64() * 1e6));
+        cells.push(grouped(stack_bytes(|| call.make()) as u64));
+        cells.push(grouped(memory(call, nodes)));
+    }
+    Ok(cells)
+}
+
+/// The bytes of memory beside the stack: the words lent to the proved planner, or the heap.
+fn memory(call: &mut Call, nodes: u64) -> u64 {
+    let heap = heap_bytes(|| call.make()) as u64;
+    if call.planner != Planner::Proved {
+        return heap;
+    }
+    assert_eq!(heap, 0, "the proved planner takes no heap");
+    8 * nodes
+}
+
+/// The best time of each call, made in turn many times. One that gave up is not made again.
+fn best_times(calls: &mut [Call; 3]) -> [Duration; 3] {
+    let mut best = [Duration::MAX; 3];
+    let begun = Instant::now();
+    for _ in 0..MOST_RUNS {
+        for (call, best) in calls.iter_mut().zip(&mut best) {
+            if call.outcome != Outcome::GaveUp {
+                let begun = Instant::now();
+                call.make();
+                *best = begun.elapsed().min(*best);
+            }
+        }
+        if begun.elapsed() > TIMED_FOR {
+            break;
+        }
+    }
+    best
+}
+
+/// A number with a comma before every three digits.
+fn grouped(number: u64) -> String {
+    let digits = number.to_string();
+    let mut text = String::new();
+    for (at, digit) in digits.chars().enumerate() {
+        if at > 0 && (digits.len() - at).is_multiple_of(3) {
+            text.push(',');
+        }
+        text.push(digit);
+    }
+    text
+}
+
+/// Prints the rows under the first of them, as markdown has it. All columns but the first are
+/// numbers, so they end together.
+fn print(rows: &[Vec<String>]) {
+    let widths: Vec<usize> = (0..rows[0].len())
+        .map(|column| rows.iter().map(|row| row[column].chars().count()).max().unwrap_or(0))
+        .collect();
+    for (number, row) in rows.iter().enumerate() {
+        let cells: String = (row.iter().zip(&widths).enumerate())
+            .map(|(column, (cell, &width))| match column {
+                0 => format!(" {cell:<width$} |"),
+                _ => format!(" {cell:>width$} |"),
+            })
+            .collect();
+        println!("|{cells}");
+        if number == 0 {
+            let rule = |(column, width): (usize, &usize)| {
+                format!("{}{}|", "-".repeat(width + 1), if column == 0 { "-" } else { ":" })
+            };
+            println!("|{}", widths.iter().enumerate().map(rule).collect::<String>());
+        }
+    }
+}

@@ -1,0 +1,274 @@
+//! Holds the proved planner to the independent one, to the paper's algorithm and to runs.
+
+use crate::dijkstra::{self, Answer};
+use crate::generate::{case, Case, Kind};
+use crate::paper::{self, Outcome};
+use crate::random::Random;
+use crate::table::{self, node_count, Table};
+use crate::{proved, runs};
+use std::collections::BTreeMap;
+use std::process::ExitCode;
+
+/// How many states the paper's algorithm takes from WAITING before it gives up.
+const MOST_ROUNDS: u64 = 50_000;
+
+/// Tries so many cases, and says what came out.
+pub fn run(seed: u64, count: u64) -> ExitCode {
+    let mut tally = Tally::default();
+    for index in 0..count {
+        let case = case(seed, index);
+        if let Err(difference) = check(&case, &mut tally) {
+            let hex: String = case.table.iter().map(|byte| format!(" {byte:02x}")).collect();
+            println!(
+                "DIFFERENCE: seed {seed}, case {index}, {:?}\ntable{hex}\n{difference}",
+                case.kind
+            );
+            return ExitCode::FAILURE;
+        }
+    }
+    tally.print();
+    println!("no difference");
+    ExitCode::SUCCESS
+}
+
+/// What was seen.
+#[derive(Default)]
+struct Tally {
+    kinds: BTreeMap<Kind, u64>,
+    refused: BTreeMap<u8, u64>,
+    no_route: u64,
+    /// Routes, by the number of bits that their number of steps has.
+    routes: BTreeMap<u32, u64>,
+    with_linger: u64,
+    searched: u64,
+    gave_up: u64,
+    held_to_runs: u64,
+}
+
+impl Tally {
+    fn count(&mut self, kind: Kind, answer: &Answer) {
+        *self.kinds.entry(kind).or_default() += 1;
+        match answer {
+            Answer::Refused(number) => *self.refused.entry(*number).or_default() += 1,
+            Answer::NoRoute => self.no_route += 1,
+            Answer::Route { steps, .. } => {
+                *self.routes.entry(usize::BITS - steps.len().leading_zeros()).or_default() += 1;
+                self.with_linger += u64::from(steps.contains(&65));
+            }
+        }
+    }
+
+    fn print(&self) {
+        println!("tables {}", self.kinds.values().sum::<u64>());
+        self.kinds.iter().for_each(|(kind, count)| println!("  {kind:?} {count}"));
+        self.refused.iter().for_each(|(number, count)| println!("refused {number}: {count}"));
+        println!("no route: {}", self.no_route);
+        println!("routes: {}", self.routes.values().sum::<u64>());
+        for (bits, count) in &self.routes {
+            println!("  of {} to {} steps: {count}", 1 << bits >> 1, (1 << bits) - 1);
+        }
+        println!("  with a linger: {}", self.with_linger);
+        let held = self.searched - self.gave_up;
+        println!("held to the paper's algorithm: {held} (it gave up on {} more)", self.gave_up);
+        println!("held to runs: {}", self.held_to_runs);
+    }
+}
+
+/// Plans one table with every planner; an error tells a difference.
+fn check(case: &Case, tally: &mut Tally) -> Result<(), String> {
+    let table = table::read(&case.table).ok();
+    let nodes = table.as_ref().map(node_count);
+    let unlimited = dijkstra::plan(&case.table, usize::MAX, usize::MAX);
+    let mut random = case.random.clone();
+    let words = words_lent(&mut random, nodes);
+    let route_bytes = route_bytes_lent(&mut random, &unlimited);
+    let with_lent = |text| format!("{words} words and {route_bytes} route bytes lent\n{text}");
+    let before = Memory::new(&case.table, words, route_bytes, &mut random);
+    let answer = dijkstra::plan(&case.table, words, route_bytes);
+    let (must, got) = (before.clone().after(&answer, nodes), before.planned());
+    if must != got {
+        return Err(with_lent(format!("independent: {answer:?}\n{}", must.unlike(&got))));
+    }
+    tally.count(case.kind, &answer);
+    match table {
+        Some(table) if searches(&answer) => {
+            hold(&table, case.kind, &unlimited, tally).map_err(with_lent)
+        }
+        _ => Ok(()),
+    }
+}
+
+/// Holds the answer to the paper's algorithm and, if the table is small, to runs.
+fn hold(table: &Table, kind: Kind, answer: &Answer, tally: &mut Tally) -> Result<(), String> {
+    tally.searched += 1;
+    match paper::least_charge(table, MOST_ROUNDS) {
+        Outcome::GaveUp => tally.gave_up += 1,
+        outcome if outcome == outcome_of(answer) => (),
+        outcome => return Err(format!("the paper's algorithm: {outcome:?}, route: {answer:?}")),
+    }
+    if kind == Kind::Small {
+        tally.held_to_runs += 1;
+        runs::check(table, answer)?;
+    }
+    Ok(())
+}
+
+/// Whether the answer is given after a search.
+fn searches(answer: &Answer) -> bool {
+    !matches!(answer, Answer::Refused(1..=9))
+}
+
+fn outcome_of(answer: &Answer) -> Outcome {
+    match answer {
+        Answer::Route { charge, .. } => Outcome::Charge(*charge),
+        _ => Outcome::Unreachable,
+    }
+}
+
+/// Mostly just enough words, else about as many, or the unit's, or few.
+fn words_lent(random: &mut Random, nodes: Option<u64>) -> usize {
+    let small = random.below(200) as usize;
+    match nodes.map(|nodes| 2 * nodes as usize) {
+        Some(needed) if needed <= 2 * 65_536 => match random.below(20) {
+            0 => needed - 1,
+            1 => needed + 1 + small,
+            2 => needed + 1,
+            3 => 6_000,
+            4 => 0,
+            5 => small,
+            _ => needed,
+        },
+        Some(needed) if random.one_in(8) => needed.min(150_000), // Refused by 8 nevertheless.
+        _ => random.pick(&[0, small, small, small, 6_000]),
+    }
+}
+
+/// Mostly just enough route bytes, else about as many, or the unit's, or none.
+fn route_bytes_lent(random: &mut Random, unlimited: &Answer) -> usize {
+    let steps = match unlimited {
+        Answer::Route { steps, .. } => steps.len(),
+        _ => 3, // None will be written.
+    };
+    match random.below(10) {
+        0 => steps.saturating_sub(1),
+        1 => steps + 1 + random.below(40) as usize,
+        2 => 0,
+        3 | 4 => 256,
+        _ => steps,
+    }
+}
+
+/// What a call is handed. Table, words, route bytes and the two numbers each lie between guards,
+/// which no call may change.
+#[derive(Clone, PartialEq)]
+struct Memory {
+    table: Vec<u8>,
+    words: Vec<u32>,
+    route: Vec<u8>,
+    charge: [u32; 3],
+    steps: [usize; 3],
+    /// What the call returned.
+    returned: u8,
+}
+
+const GUARD_BYTES: usize = 32;
+const GUARD_WORDS: usize = 16;
+/// No call returns this.
+const NOT_CALLED: u8 = 254;
+
+impl Memory {
+    fn new(table: &[u8], words: usize, route_bytes: usize, random: &mut Random) -> Memory {
+        let [low, high] = [(); 2].map(|()| random.bytes(GUARD_BYTES));
+        Memory {
+            table: [&low, table, &high].concat(),
+            words: (0..words + 2 * GUARD_WORDS).map(|_| random.draw() as u32).collect(),
+            route: random.bytes(route_bytes + 2 * GUARD_BYTES),
+            charge: [(); 3].map(|()| random.draw() as u32),
+            steps: [(); 3].map(|()| random.draw() as usize),
+            returned: NOT_CALLED,
+        }
+    }
+
+    /// After a call of the proved planner.
+    fn planned(mut self) -> Memory {
+        self.returned = proved::plan(
+            inside(&mut self.table, GUARD_BYTES),
+            inside(&mut self.words, GUARD_WORDS),
+            inside(&mut self.route, GUARD_BYTES),
+            &mut self.charge[1],
+            &mut self.steps[1],
+        );
+        self
+    }
+
+    /// After a call that gives this answer, as document 01 has it.
+    fn after(mut self, answer: &Answer, nodes: Option<u64>) -> Memory {
+        if searches(answer) {
+            let needed = 2 * nodes.unwrap_or(0) as usize;
+            inside(&mut self.words, GUARD_WORDS)[..needed].fill(0);
+        }
+        self.returned = match answer {
+            Answer::Refused(number) => *number,
+            Answer::NoRoute => proved::NO_ROUTE,
+            Answer::Route { charge, steps } => {
+                inside(&mut self.route, GUARD_BYTES)[..steps.len()].copy_from_slice(steps);
+                self.charge[1] = *charge;
+                self.steps[1] = steps.len();
+                proved::ROUTE
+            }
+        };
+        self
+    }
+
+    /// Tells where another is not the same.
+    fn unlike(&self, got: &Memory) -> String {
+        let numbers = |memory: &Memory| {
+            format!("{}, charge {:?}, steps {:?}", memory.returned, memory.charge, memory.steps)
+        };
+        let mut text = format!("must return {}\ngot         {}", numbers(self), numbers(got));
+        text += &first_unlike("table byte", GUARD_BYTES, &self.table, &got.table);
+        text += &first_unlike("word", GUARD_WORDS, &self.words, &got.words);
+        text += &first_unlike("route byte", GUARD_BYTES, &self.route, &got.route);
+        text + &format!(
+            "\nroute bytes got {:?}",
+            &got.route[GUARD_BYTES..got.route.len() - GUARD_BYTES]
+        )
+    }
+}
+
+/// What lies between the guards.
+fn inside<T>(memory: &mut [T], guard: usize) -> &mut [T] {
+    let end = memory.len() - guard;
+    &mut memory[guard..end]
+}
+
+/// The first place that differs, counted from the first that is lent.
+fn first_unlike<T: PartialEq + std::fmt::Debug>(
+    what: &str,
+    guard: usize,
+    must: &[T],
+    got: &[T],
+) -> String {
+    match must.iter().zip(got).position(|(must, got)| must != got) {
+        Some(at) => {
+            let place = at as isize - guard as isize;
+            format!("\n{what} {place} must be {:?}, is {:?}", must[at], got[at])
+        }
+        None => String::new(),
+    }
+}
+
+#[cfg(test)]
+mod tests {
+    use super::*;
+
+    #[test]
+    fn a_few_cases() {
+        let mut tally = Tally::default();
+        for index in 0..2_000 {
+            assert_eq!(check(&case(3, index), &mut tally), Ok(()), "case {index}");
+        }
+        assert!(tally.refused.keys().copied().eq(1..=10));
+        assert!(tally.no_route > 0 && tally.routes.len() > 4 && tally.with_linger > 0);
+    }
+}

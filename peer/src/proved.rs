@@ -1,0 +1,46 @@
+//! The proved planner, called through its C interface.
+
+/// What the call returns for a route. Refusals return their number, 1 to 10.
+pub const ROUTE: u8 = 0;
+/// What the call returns if no chain comes into the goal.
+pub const NO_ROUTE: u8 = 255;
+
+extern "C" {
+    fn planner_plan(
+        table: *const u8,
+        table_len: usize,
+        words: *mut u32,
+        words_len: usize,
+        route: *mut u8,
+        route_len: usize,
+        charge: *mut u32,
+        steps: *mut usize,
+    ) -> u8;
+}
+
+/// Plans the table with the words and route bytes lent. `charge` and `steps` are written if the
+/// answer is `ROUTE`, and only then.
+pub fn plan(
+    table: &[u8],
+    words: &mut [u32],
+    route: &mut [u8],
+    charge: &mut u32,
+    steps: &mut usize,
+) -> u8 {
+    // Sound: each pointer comes from a reference that lives for the whole call, so it is aligned
+    // and never null (an empty slice's is not either) and its length is that of memory that is
+    // there. What is written is borrowed mutably, so it overlaps nothing else. The call keeps no
+    // pointer.
+    unsafe {
+        planner_plan(
+            table.as_ptr(),
+            table.len(),
+            words.as_mut_ptr(),
+            words.len(),
+            route.as_mut_ptr(),
+            route.len(),
+            charge,
+            steps,
+        )
+    }
+}

@@ -15,8 +15,9 @@ use Rattle.reader.specs.Held.{IsTable}
 use Rattle.search.specs.declared.places.Place.{Place as PlaceHeld}
 use Rattle.search.specs.declared.places.Stepped.{Stepped}
 use Rattle.search.specs.Regions.{automatonOf}
-use Rattle.search.specs.Places.{packPlace, viewPlace, packStep, PlaceAt, completes}
+use Rattle.search.specs.Places.{packPlace, viewPlace, packStep, PlaceAt, completes, mayTake}
 use Rattle.search.specs.Laws.Chains.{step-at, completes-iff}
+use Rattle.search.specs.Laws.Taking.{not-taken}
 use Rattle.route.specs.Choose.{Onward, IsChosen}
 
 clash : true ≡ false → ⊥
@@ -52,6 +53,15 @@ module _
 
     pub step-refused : (ws : List ℕ) (c : Cost) → r .allowed ≡ false → Fails t ws s c byte
     step-refused ws c a p q can = clash (sym (ap (λ (x : Stepped). x .allowed) (e ∙ ap (packStep s) q)) ∙ a)
+
+-- A byte that may not be taken.
+pub never-taken :
+    (t : Table) → IsTable t → (s : PlaceHeld) (byte : ℕ) (b : Bool) → b ≡ mayTake (t .sources) (t .moves) (s .mode) byte → b ≡ false → (ws : List ℕ) (c : Cost)
+    → Fails t ws s c byte
+never-taken t h s byte b e f ws c q allowed can =
+    let gone = not-taken t h (viewPlace s) byte (sym e ∙ f) in
+    let z : _≡_ {A = ℕ} 0 1 = cc in
+    omega arith
 
 -- What it learns of the place that a step leads to.
 module _

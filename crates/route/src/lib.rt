@@ -10,6 +10,7 @@ use reader::Table;
 use reader::Verdict;
 use search::INFINITY;
 use search::Searched;
+use search::places;
 use search::places::Place;
 
 // "10: the route has more steps than route bytes lent".
@@ -107,14 +108,17 @@ fn choose(table: Table, words: &[u32], place: Place, charge: u32, left: u32) -> 
     requires { ⌜ Onward table (now words) place charge left ⌝ }
     ensures { λ r. ⌜ IsChosen table (now (words .entry)) place charge left r ⌝ }
 {
+    let sources = table.sources;
     let mut byte: u8 = 0;
     while byte < 66 {
-        let stepped = place.step(table, byte);
-        let allowed = stepped.allowed;
-        let next = stepped.place;
-        if allowed {
-            if next.completes(table, words, charge, left) {
-                return Chosen { byte, place: next };
+        if places::may_take(&sources, table.moves, place.mode, byte) {
+            let stepped = place.step(table, byte);
+            let allowed = stepped.allowed;
+            let next = stepped.place;
+            if allowed {
+                if next.completes(table, words, charge, left) {
+                    return Chosen { byte, place: next };
+                }
             }
         }
         byte += 1;

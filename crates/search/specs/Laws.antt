@@ -1,3 +1,4 @@
 -- What a caller may conclude from the contracts: the answers by cases, and places along chains with the words of a search.
 pub mod Answers
 pub mod Chains
+pub mod Taking

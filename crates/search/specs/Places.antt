@@ -5,7 +5,7 @@ use mathlib.Core.Bool.{Bool, true, false, _&&_, _||_, not}
 use mathlib.Core.List.{List, [], _∷_}
 use mathlib.Core.Option.{Option, none, some}
 use Prim.Native.Nat.{ℕ, _+_, _≤_}
-use lib.Dec.{eqb}
+use lib.Dec.{leb, ltb, eqb}
 use lib.ListN.{length, getD}
 use Rattle.semantics.specs.Automaton.{Automaton}
 use Rattle.semantics.specs.Corner.{countFrom}
@@ -45,6 +45,10 @@ StepRoom s = PriceRoom mostWeight (view (s .region))
 -- The corner is one of the region's.
 abbrev pub CornerThere : PlaceHeld → ℕ → Type 0
 CornerThere s corner = corner ≤ s .region .top
+
+-- Whether the step of the byte may be allowed in the mode, by the sources of the moves alone: a move leads from its own source only.
+unfoldable pub mayTake : List ℕ → ℕ → ℕ → ℕ → Bool
+mayTake sources moves mode byte = leb 64 byte || (ltb byte moves && eqb (getD sources byte 0) mode)
 
 -- What the words say of a corner.
 abbrev pub costOf : Automaton → Place → List ℕ → ℕ → CostHeld

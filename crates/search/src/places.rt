@@ -7,7 +7,7 @@ ghost use Rattle.semantics.specs.Node.{nodeCount};
 ghost use Rattle.semantics.specs.Chain.{begin, step, moveStep, delayStep, lingerStep};
 ghost use Rattle.reader.specs.Held.{IsTable};
 ghost use Rattle.search.specs.Regions.{automatonOf};
-ghost use Rattle.search.specs.Places.{packPlace, viewPlace, packStep, costOf, completesWith, completes, PlaceAt, StepRoom, CornerThere};
+ghost use Rattle.search.specs.Places.{packPlace, viewPlace, packStep, costOf, completesWith, completes, mayTake, PlaceAt, StepRoom, CornerThere};
 use crate::INFINITY;
 use crate::conditions;
 use reader::Table;
@@ -30,6 +30,21 @@ pub struct Stepped {
 pub struct Cost {
     pub charge: u32,
     pub steps: u32,
+}
+
+// Whether the step of the byte may be allowed in the mode, by the sources of the moves alone.
+pub fn may_take(sources: &[u8], moves: usize, mode: usize, byte: u8) -> bool
+    requires { ⌜ moves ≤ length (now sources) ⌝ }
+    ensures { λ r. ⌜ r ≡ mayTake (now (sources .entry)) moves mode byte ⌝ }
+{
+    if 64 <= byte {
+        return true;
+    }
+    let number = byte as usize;
+    if moves <= number {
+        return false;
+    }
+    sources[number] as usize == mode
 }
 
 impl Place {

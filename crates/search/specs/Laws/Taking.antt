@@ -1,0 +1,39 @@
+-- A byte that may not be taken, by the sources of the moves, has no step.
+-- Assumes nothing.
+use mathlib.Core.Path.{_≡_, refl}
+use mathlib.Core.Bool.{false}
+use mathlib.Core.Option.{none}
+use Prim.Native.Nat.{ℕ, _<_}
+use native.Mathlib.Decide.{decLt}
+use native.Mathlib.Omega.{arith}
+use borrow.Author.Tests.{lt-ltb, le-ltb, le-leb, lt-leb}
+use lib.Dec.{eqb}
+use lib.ListN.{length, getD}
+use Rattle.semantics.specs.Automaton.{Automaton}
+use Rattle.semantics.specs.Chain.{Place, moveStep, step}
+use Rattle.reader.specs.declared.Table.{Table}
+use Rattle.reader.specs.Held.{IsTable}
+use Rattle.reader.specs.Theorems.Access.{move-count, move-at}
+use Rattle.search.specs.Regions.{automatonOf}
+use Rattle.search.specs.Places.{mayTake}
+
+pub not-taken :
+    (t : Table) → IsTable t → (p : Place) (byte : ℕ) → mayTake (t .sources) (t .moves) (p .mode) byte ≡ false
+    → step (automatonOf t) byte p ≡ none
+unfolding mayTake step moveStep
+not-taken t h p byte f = at (decLt byte 64) (decLt byte (t .moves))
+  where
+    a : Automaton
+    a = automatonOf t
+
+    -- It is a move from another mode.
+    other : byte < 64 → byte < t .moves → eqb (getD (t .sources) byte 0) (p .mode) ≡ false
+    other b c = rw (lt-leb 64 byte b, lt-ltb byte (t .moves) c) at f
+
+    at : Dec (byte < 64) → Dec (byte < t .moves) → step a byte p ≡ none
+    at (no b) d =
+        let g = rw (le-leb 64 byte (omega arith)) at f in
+        absurd (let z : _≡_ {A = ℕ} 0 1 = cc in omega arith)
+    at (yes b) (no c) = rw (lt-ltb byte 64 b, le-ltb byte (length (a .moves)) (omega (arith, move-count t h))) refl
+    at (yes b) (yes c) =
+        rw (lt-ltb byte 64 b, lt-ltb byte (length (a .moves)) (omega (arith, move-count t h)), move-at t h byte c, other b c) refl

@@ -10,7 +10,7 @@ use std::collections::BTreeMap;
 use std::process::ExitCode;
 
 /// How many states the paper's algorithm takes from WAITING before it gives up.
-const MOST_ROUNDS: u64 = 50_000;
+const MOST_ROUNDS: u64 = 20_000_000;
 
 /// Tries so many cases, and says what came out.
 pub fn run(seed: u64, count: u64) -> ExitCode {

@@ -1,4 +1,4 @@
--- The nodes on best paths from a node, and what a search from there leaves of the costs: those of these nodes.
+-- The nodes on best paths from a node s, and the costs of these nodes alone. No contract cites this page yet: it is what a search forwards from s would leave.
 -- Assumes nothing.
 use mathlib.Core.Bool.{Bool, false, cond, _&&_}
 use mathlib.Core.List.{List, [], _∷_}
@@ -40,7 +40,7 @@ makes (reached a) (reached b) (reached c) = eqb (plus a b .charge) (c .charge) &
 unfoldable pub onBest : Graph → ℕ → ℕ → Bool
 onBest g s v = makes (distance (turned g s) v) (distance g v) (distance g s)
 
--- What the search leaves: the least cost into the targets of the nodes on best paths from s, and of no others.
+-- The least cost into the targets of the nodes on best paths from s, and of no others.
 unfoldable pub bestEntry : Graph → ℕ → ℕ → Entry
 bestEntry g s v = cond (onBest g s v) (distance g v) unreached
 

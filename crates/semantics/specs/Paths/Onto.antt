@@ -1,14 +1,13 @@
--- Tables that give least costs only for the nodes on best paths from a node s: at the nodes that paths from s come to, they say the same of
+-- Tables that give least costs at least for the nodes on best paths from a node s: at the nodes that paths from s come to, they say the same of
 -- the best paths as a table of all least costs.
 -- Assumes nothing.
 use mathlib.Core.Path.{_≡_, refl, sym, subst}
 use mathlib.Core.Logic.{_↔_}
 use Prim.Native.Nat.{ℕ, _<_}
-use native.Mathlib.Nat.{zero-add}
 use Rattle.semantics.specs.Path.{Graph, Cost, cost, HasCost, Least, Entry, unreached, reached, LeastCosts}
 use Rattle.semantics.specs.Paths.Least.{least-reached}
 use Rattle.semantics.specs.Best.{turned, plus}
-use Rattle.semantics.specs.Paths.Turned.{turned-start}
+use Rattle.semantics.specs.Paths.Turned.{turned-start, plus-start}
 
 -- A table that gives the least costs of the nodes on best paths from s, and perhaps of others.
 pub record BestCosts (g : Graph) (s : ℕ) (d : ℕ → Entry) : Type 0 where
@@ -21,10 +20,6 @@ pub record BestCosts (g : Graph) (s : ℕ) (d : ℕ → Entry) : Type 0 where
 pub least-best : {g : Graph} {d : ℕ → Entry} (s : ℕ) → LeastCosts g d → BestCosts g s d
 least-best {g} {d} s exact = record { least = exact .least; there = λ v a c h w l b. least-reached g d exact v h c l }
 
--- Nothing and then a cost.
-plus-none : (c : Cost) → plus (cost 0 0) c ≡ c
-plus-none c = λ i. record { charge = zero-add (c .charge) i; steps = zero-add (c .steps) i }
-
 -- The start node has the same entry in such a table and in one of all least costs.
 pub best-start : {g : Graph} {s : ℕ} {d D : ℕ → Entry} → s < g .nodes → BestCosts g s d → LeastCosts g D → d s ≡ D s
 best-start {g} {s} {d} {D} h best exact = at (D s) refl (d s) refl
@@ -32,7 +27,7 @@ best-start {g} {s} {d} {D} h best exact = at (D s) refl (d s) refl
     at : (x : Entry) → D s ≡ x → (y : Entry) → d s ≡ y → d s ≡ D s
     at (reached c) q y r =
         let l = exact .least s c h q in
-        rw q (best .there s (cost 0 0) c h (turned-start g s) l (subst (Least g s) (sym (plus-none c)) l))
+        rw q (best .there s (cost 0 0) c h (turned-start g s) l (subst (Least g s) (sym (plus-start c)) l))
     at unreached q unreached r = rw (q, r) refl
     at unreached q (reached c) r =
         let p = best .least s c h r .attained in

@@ -2,12 +2,13 @@
 -- Assumes nothing.
 use mathlib.Core.Path.{_≡_, refl, sym, ap, subst}
 use mathlib.Core.Bool.{true}
+use mathlib.Core.List.{List}
 use mathlib.Core.Option.{Option, none, some}
 use Prim.Native.Nat.{ℕ, zero, suc, _+_, _*_, _≤_}
 use native.Mathlib.Omega.{arith}
+use lib.ListN.{length}
 use Rattle.semantics.specs.Automaton.{Automaton}
 use Rattle.semantics.specs.Region.{start}
-use Rattle.semantics.specs.Node.{nodeCount}
 use Rattle.semantics.specs.Chain.{Place, begin, step}
 use Rattle.reader.specs.declared.Table.{Table}
 use Rattle.reader.specs.Fields.{mostPrice}
@@ -17,9 +18,10 @@ use Rattle.search.specs.declared.places.Place.{Place as PlaceHeld}
 use Rattle.search.specs.declared.places.Stepped.{Stepped}
 use Rattle.search.specs.Regions.{automatonOf}
 use Rattle.search.specs.Outcome.{answered}
-use Rattle.search.specs.Places.{packPlace, viewPlace, packStep, PlaceAt, StepRoom}
+use Rattle.search.specs.Places.{packPlace, viewPlace, packStep, PlaceAt, StepAt, WordsAt}
 use Rattle.search.specs.Laws.Answers.{answer-fits}
 use Rattle.search.specs.Laws.Chains.{PricesBelow, start-at, step-at, step-prices, prices-room}
+use Rattle.cases.specs.Step.{HasWords}
 
 -- The struct holds a place of the table's graph, whose prices are at most the greatest rate or price for each of the n steps made.
 pub record Stands (t : Table) (n : ℕ) (s : PlaceHeld) : Type 0 where
@@ -38,9 +40,26 @@ module _ (t : Table) (h : IsTable t) where
       let o = start-at t h in
       subst (Stands t 0) (sym e) (record { held = o .0; below = subst (PricesBelow 0) (sym (o .1)) (begin-prices (automatonOf t)) })
 
-  -- There is room for a step.
-  pub stands-room : (s : PlaceHeld) (n : ℕ) → Stands t n s → n ≤ 5 → StepRoom s
-  stands-room s n k few = prices-room t h s (k .held) (mostPrice * n) (k .below) (omega arith)
+  -- A step can be made, with the arrays of the table.
+  pub stands-ready :
+      (s : PlaceHeld) (n : ℕ) → Stands t n s → n ≤ 5
+      → StepAt t s (t .moves) (t .ceilings) (t .rates) (t .invariants) (t .sources) (t .targets) (t .prices) (t .guards) (t .resets)
+  stands-ready s n k few = record {
+    is-table = h;
+    moves-are = refl;
+    ceilings-are = refl;
+    arrays = record {
+      rates-are = refl;
+      invariants-are = refl;
+      sources-are = refl;
+      targets-are = refl;
+      prices-are = refl;
+      guards-are = refl;
+      resets-are = refl;
+    };
+    held = k .held;
+    room = prices-room t h s (k .held) (mostPrice * n) (k .below) (omega arith);
+  }
 
   -- An allowed step.
   pub stands-step :
@@ -58,6 +77,13 @@ module _ (t : Table) (h : IsTable t) where
           subst (Stands t (n + 1)) (sym (ap (λ (u : Stepped). u .place) e))
           (record { held = o .0; below = subst (PricesBelow (mostPrice * (n + 1))) (sym (o .1)) prices })
 
--- The answer is a number of nodes.
-pub words-lent : (a : Automaton) (lent n : ℕ) → answered a lent ≡ Nodes n → 2 * nodeCount a ≤ lent
-words-lent a lent n e = let f = answer-fits a lent n e in omega (arith, f .counted, f .room)
+-- The words of all nodes are there to say of the place whether it stands.
+pub stands-words : (t : Table) (ws : List ℕ) → HasWords t (length ws) → (s : PlaceHeld) (n : ℕ) → Stands t n s → WordsAt t s (t .ceilings) ws
+stands-words t ws w s n k =
+    record { is-table = w .is-table; ceilings-are = refl; held = k .held; few = w .few; room = w .room }
+
+-- A search that answers with a number of nodes had words for them, and they are few.
+pub words-lent : (t : Table) → IsTable t → (lent n : ℕ) → answered (automatonOf t) lent ≡ Nodes n → HasWords t lent
+words-lent t h lent n e =
+    let f = answer-fits (automatonOf t) lent n e in
+    record { is-table = h; few = omega (arith, f .counted, f .few); room = omega (arith, f .counted, f .room) }

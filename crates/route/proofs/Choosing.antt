@@ -1,24 +1,23 @@
--- The loop that looks for the least byte whose step leads to a place from which the cost is completed: what each byte's step and test say.
+-- The loop that looks for the least byte whose step leads to a place that stands: what each byte's step and test say.
 -- Assumes nothing.
 use mathlib.Core.Path.{_≡_, refl, sym, ap, subst, _∙_}
 use mathlib.Core.Bool.{Bool, true, false}
 use mathlib.Core.List.{List}
-use mathlib.Core.Option.{Option, none, some}
+use mathlib.Core.Option.{Option, none, some, Option·none-ne-some}
 use Prim.Native.Nat.{ℕ, _+_, _<_, _≤_}
-use native.Mathlib.Decide.{decLt}
+use native.Mathlib.Decide.{decLt, ℕ-discrete}
 use native.Mathlib.Omega.{arith}
 use Rattle.semantics.specs.Chain.{Place, step}
-use Rattle.semantics.specs.Path.{Cost, cost}
-use Rattle.semantics.specs.Answers.Reading.{CanComplete}
 use Rattle.reader.specs.declared.Table.{Table}
 use Rattle.reader.specs.Held.{IsTable}
+use Rattle.reader.specs.Theorems.Access.{counts, lengths}
 use Rattle.search.specs.declared.places.Place.{Place as PlaceHeld}
 use Rattle.search.specs.declared.places.Stepped.{Stepped}
 use Rattle.search.specs.Regions.{automatonOf}
-use Rattle.search.specs.Places.{packPlace, viewPlace, packStep, PlaceAt, completes, mayTake}
-use Rattle.search.specs.Laws.Chains.{step-at, completes-iff}
+use Rattle.search.specs.Places.{packPlace, viewPlace, packStep, PlaceAt, NextReady, IsNext, WordsAt, mayTake, stands}
+use Rattle.search.specs.Laws.Chains.{step-at}
 use Rattle.search.specs.Laws.Taking.{not-taken}
-use Rattle.route.specs.Choose.{Onward, IsChosen}
+use Rattle.route.specs.Walk.{ChooseAt, Chooses}
 
 clash : true ≡ false → ⊥
 clash e = let z : _≡_ {A = ℕ} 0 1 = cc in omega arith
@@ -28,19 +27,20 @@ pub record Leads (t : Table) (s : PlaceHeld) (byte : ℕ) (next : PlaceHeld) : T
   pub allowed : step (automatonOf t) byte (viewPlace s) ≡ some (viewPlace next)
   pub held : PlaceAt t next
 
--- The byte's step does not lead to a place from which the cost can be completed.
-abbrev pub Fails : Table → List ℕ → PlaceHeld → Cost → ℕ → Type 0
-Fails t ws s c byte = (q : Place) → step (automatonOf t) byte (viewPlace s) ≡ some q → CanComplete (automatonOf t) ws q c → ⊥
+-- The byte's step does not lead to a place that stands.
+abbrev pub Fails : Table → PlaceHeld → ℕ → List ℕ → ℕ → Type 0
+Fails t s steps ws byte = (z : Place) → step (automatonOf t) byte (viewPlace s) ≡ some z → stands (automatonOf t) ws z steps ≡ false
 
--- No byte's step below this one does.
-abbrev pub NoneBelow : Table → List ℕ → PlaceHeld → Cost → ℕ → Type 0
-NoneBelow t ws s c byte = (k : ℕ) → k < byte → Fails t ws s c k
+-- No byte's step from `first` on below this one does.
+abbrev pub NoneBelow : Table → PlaceHeld → ℕ → ℕ → List ℕ → ℕ → Type 0
+NoneBelow t s first steps ws byte = (k : ℕ) → first ≤ k → k < byte → Fails t s steps ws k
 
 -- What the code learns of a step.
 module _
     (t : Table) (h : IsTable t) (s : PlaceHeld) (k : PlaceAt t s) (byte : ℕ) (r : Stepped)
     (e : r ≡ packStep s (step (automatonOf t) byte (viewPlace s)))
   where
+    -- If the step is allowed, the place held is the one it leads to.
     pub step-leads : r .allowed ≡ true → Leads t s byte (r .place)
     step-leads a = go (step (automatonOf t) byte (viewPlace s)) refl
       where
@@ -51,54 +51,88 @@ module _
             let same : packPlace p ≡ r .place = sym (ap (λ (x : Stepped). x .place) (e ∙ ap (packStep s) q)) in
             subst (Leads t s byte) same (record { allowed = q ∙ ap some (sym (there .1)); held = there .0 })
 
-    pub step-refused : (ws : List ℕ) (c : Cost) → r .allowed ≡ false → Fails t ws s c byte
-    step-refused ws c a p q can = clash (sym (ap (λ (x : Stepped). x .allowed) (e ∙ ap (packStep s) q)) ∙ a)
+    -- Where the step leads to a place, it is the one held.
+    pub leads-to : (p : Place) → step (automatonOf t) byte (viewPlace s) ≡ some p → r .place ≡ packPlace p
+    leads-to p q = ap (λ (x : Stepped). x .place) (e ∙ ap (packStep s) q)
 
--- A byte that may not be taken.
-pub never-taken :
-    (t : Table) → IsTable t → (s : PlaceHeld) (byte : ℕ) (b : Bool) → b ≡ mayTake (t .sources) (t .moves) (s .mode) byte → b ≡ false → (ws : List ℕ) (c : Cost)
-    → Fails t ws s c byte
-never-taken t h s byte b e f ws c q allowed can =
-    let gone = not-taken t h (viewPlace s) byte (sym e ∙ f) in
-    let z : _≡_ {A = ℕ} 0 1 = cc in
-    omega arith
+    -- A step that is not allowed leads to no place that stands.
+    pub step-refused : (steps : ℕ) (ws : List ℕ) → r .allowed ≡ false → Fails t s steps ws byte
+    step-refused steps ws a z q = absurd (clash (sym (ap (λ (x : Stepped). x .allowed) (e ∙ ap (packStep s) q)) ∙ a))
 
 -- What it learns of the place that a step leads to.
 module _
-    (t : Table) (ws : List ℕ) (s : PlaceHeld) (charge left byte : ℕ) (next : PlaceHeld) (b : Bool)
-    (e : b ≡ completes (automatonOf t) ws (viewPlace next) (cost charge left)) (to : Leads t s byte next)
+    (t : Table) (s : PlaceHeld) (first steps : ℕ) (ws : List ℕ) (byte : ℕ) (next : PlaceHeld) (b : Bool)
+    (e : b ≡ stands (automatonOf t) ws (viewPlace next) steps) (to : Leads t s byte next)
   where
-    pub test-fails : b ≡ false → Fails t ws s (cost charge left) byte
-    test-fails f q allowed can =
-        let same : q ≡ viewPlace next = cc in
-        let there = subst (λ (p : Place). CanComplete (automatonOf t) ws p (cost charge left)) same can in
-        clash (sym (completes-iff t ws (viewPlace next) (cost charge left) .1 there) ∙ sym e ∙ f)
+    -- The byte fails, or is the one chosen.
+    pub test-fails : b ≡ false → Fails t s steps ws byte
+    test-fails f z q =
+        let same : viewPlace next ≡ z = cc in
+        subst (λ (p : Place). stands (automatonOf t) ws p steps ≡ false) same (sym e ∙ f)
 
-    pub test-holds :
-        b ≡ true → byte < 66 → NoneBelow t ws s (cost charge left) byte → IsChosen t ws s charge left (record { byte = byte; place = next })
-    test-holds f below fail = record {
-      below = below;
-      held = to .held;
-      chosen = record {
-        allowed = to .allowed;
-        completes = completes-iff t ws (viewPlace next) (cost charge left) .0 (sym e ∙ f);
-        least = λ k q b. fail k b q;
-      };
+    pub test-holds : b ≡ true → NoneBelow t s first steps ws byte → Chooses t s first steps ws (record { byte = byte; place = next })
+    test-holds f below = record {
+      none-before = λ k z b c q. below k b c z q;
+      leads = λ b. to .allowed;
+      held = λ b. to .held;
+      standing = λ b. sym e ∙ f;
     }
 
-module _ (t : Table) (ws : List ℕ) (s : PlaceHeld) (c : Cost) where
-  pub none-first : NoneBelow t ws s c 0
-  none-first k b = absurd (omega arith)
+-- A byte of 66 or more: no byte was chosen.
+pub chooses-none :
+    (t : Table) (s : PlaceHeld) (first steps : ℕ) (ws : List ℕ) (byte : ℕ) → 66 ≤ byte → NoneBelow t s first steps ws byte
+    → Chooses t s first steps ws (record { byte = byte; place = s })
+chooses-none t s first steps ws byte h below = record {
+  none-before = λ k z b c q. below k b c z q;
+  leads = λ b. absurd (omega arith);
+  held = λ b. absurd (omega arith);
+  standing = λ b. absurd (omega arith);
+}
 
-  pub none-next : (byte : ℕ) → NoneBelow t ws s c byte → Fails t ws s c byte → NoneBelow t ws s c (byte + 1)
-  none-next byte below fail k b = go (decLt k byte)
-    where
-      go : Dec (k < byte) → Fails t ws s c k
-      go (yes d) = below k d
-      go (no d) = let same : byte ≡ k = omega arith in subst (Fails t ws s c) same fail
+-- What is asked of the callees, and what the first and the next byte say.
+module _
+    {t : Table} {s : PlaceHeld} {first moves : ℕ} {ceilings rates invariants sources targets prices guards resets ws : List ℕ}
+    (k : ChooseAt t s first moves ceilings rates invariants sources targets prices guards resets ws)
+  where
+    -- The arrays are long enough to look for the next byte.
+    pub next-ready : NextReady s moves sources guards
+    next-ready =
+        let h = k .step .is-table in
+        let l = lengths t h in
+        let at = k .step .arrays in (
+          k .step .held .valid,
+          omega (arith, counts t h, k .step .moves-are),
+          rw (at .sources-are) (omega (arith, counts t h, k .step .moves-are, l .sources-length)),
+          rw (at .guards-are) (omega (arith, counts t h, k .step .moves-are, l .guards-length)),
+        )
 
--- Some byte below 66 has such a step.
-pub not-none :
-    (t : Table) (ws : List ℕ) (s : PlaceHeld) (charge left : ℕ) → Onward t ws s charge left → (byte : ℕ) → 66 ≤ byte
-    → NoneBelow t ws s (cost charge left) byte → ⊥
-not-none t ws s charge left o byte h below = below (o .byte) (omega (arith, o .below)) (o .next) (o .allowed) (o .completes)
+    -- There are words for every place.
+    pub words-at : (next : PlaceHeld) → PlaceAt t next → WordsAt t next ceilings ws
+    words-at next held = record {
+      is-table = k .step .is-table;
+      ceilings-are = k .step .ceilings-are;
+      held = held;
+      few = k .few;
+      room = k .words;
+    }
+
+    -- A byte that may not be taken.
+    never-taken : (steps byte : ℕ) → mayTake sources guards moves (viewPlace s) byte ≡ false → Fails t s steps ws byte
+    never-taken steps byte e z q =
+        let at = k .step .arrays in
+        let f = rw (at .sources-are, at .guards-are, k .step .moves-are) at e in
+        absurd (Option·none-ne-some z (sym (not-taken t (k .step .is-table) (viewPlace s) byte f) ∙ q))
+
+    -- The bytes before the first that may be taken, and those before the next.
+    pub none-first : (steps byte : ℕ) → IsNext s first moves sources guards byte → NoneBelow t s first steps ws byte
+    none-first steps byte next j b c = never-taken steps j (next .none-before j b c)
+
+    pub none-next :
+        (steps byte byte′ : ℕ) → NoneBelow t s first steps ws byte → Fails t s steps ws byte → IsNext s (byte + 1) moves sources guards byte′
+        → NoneBelow t s first steps ws byte′
+    none-next steps byte byte′ below fail next j b c = go (decLt j byte) (ℕ-discrete byte j)
+      where
+        go : Dec (j < byte) → Dec (byte ≡ j) → Fails t s steps ws j
+        go (yes d) e = below j b d
+        go (no d) (yes e) = subst (Fails t s steps ws) e fail
+        go (no d) (no e) = never-taken steps j (next .none-before j (omega arith) c)

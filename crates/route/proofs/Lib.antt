@@ -1,7 +1,13 @@
 -- The laws that the functions' proofs cite.
--- One step of the route, and the route.
+-- The route's first bytes as chains.
+pub mod ChainPrices
+-- One choice of a byte, and bytes that are followed.
 pub mod Choosing
-pub mod Writing
--- From the words of a search to the answer, and from the bytes to the outcome.
-pub mod Reading
+pub mod Following
+-- The walk's turns: a step further, and a step back.
+pub mod Walking
+pub mod Returning
+-- From the words of a search to the answer.
+pub mod Answering
+-- And from the bytes to the outcome.
 pub mod Planning

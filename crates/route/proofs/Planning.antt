@@ -10,8 +10,9 @@ use Rattle.semantics.specs.Automaton.{Automaton}
 use Rattle.semantics.specs.Corner.{countFrom, flatMap}
 use Rattle.semantics.specs.Path.{Graph, Entry, unreached, reached}
 use Rattle.semantics.specs.Node.{nodeCount}
-use Rattle.semantics.specs.Distance.{distance, entryWords, distanceWords}
-use Rattle.semantics.specs.CornerGraph.{cornerGraph}
+use Rattle.semantics.specs.Distance.{distance, entryWords}
+use Rattle.semantics.specs.Near.{turned, near, nearWords}
+use Rattle.semantics.specs.CornerGraph.{startNode, cornerGraph}
 use Rattle.semantics.specs.Answers.Graph.{graph-nodes}
 use Rattle.reader.specs.declared.Table.{Table}
 use Rattle.reader.specs.declared.Reading.{Reading}
@@ -26,16 +27,16 @@ use Rattle.search.specs.declared.Searched.{Searched}
 use Rattle.search.specs.declared.Searched.the-variants.{Nodes as Searched·Nodes, Refused as Searched·Refused}
 use Rattle.search.specs.Regions.{automatonOf}
 use Rattle.search.specs.Outcome.{answered, searched, cleared}
-use Rattle.search.specs.Laws.Chains.{searched-best}
-use Rattle.search.specs.Laws.Answers.{answer-fits, searched-refused, searched-nodes, cleared-nodes}
+use Rattle.search.specs.Laws.Goal.{searched-near, searched-room, searched-length}
+use Rattle.search.specs.Laws.Answers.{Fits, answer-fits, searched-refused, searched-nodes, cleared-nodes}
 use Rattle.route.specs.declared.Answer.{Answer}
 use Rattle.route.specs.declared.Answer.the-variants.{Refused}
 use Rattle.route.specs.Plan.{Outcome, outcome, afterRoom, plannedTable, judged, planned}
 use Rattle.route.specs.Promise.{KeepsDemand}
-use Rattle.route.specs.Choose.{Found, ReadOff}
+use Rattle.route.specs.Walk.{Found, RestKept, ReadOff}
 use Rattle.route.specs.Keeps.{planned-keeps}
 
--- The words of the distances are two for each node.
+-- The words of a search are two for each node.
 entry-length : (x : Entry) → length (entryWords x) ≡ 2
 entry-length unreached = refl
 entry-length (reached c) = refl
@@ -46,62 +47,50 @@ words-length d (suc n) i =
     let rest = flatMap (λ v. entryWords (d v)) (countFrom (suc i) n) in
     omega (arith, length-append (entryWords (d i)) rest, entry-length (d i), words-length d n (suc i))
 
-distance-length : (g : Graph) → length (distanceWords g) ≡ 2 * g .nodes
-unfolding distanceWords
-distance-length g = words-length (distance g) (g .nodes) 0
-
--- A search was made, so that the nodes are n.
-module _ (a : Automaton) (l : ℕ) (ws : List ℕ) (n : ℕ) (e : answered a (length ws) ≡ Searched·Nodes n) where
-  distances : List ℕ
-  distances = distanceWords (cornerGraph a l)
-
-  first-words : length distances ≡ 2 * n
-  unfolding distances
-  first-words =
-      distance-length (cornerGraph a l)
-      ∙ ap (λ (k : ℕ). 2 * k) (graph-nodes a l ∙ sym (answer-fits a (length ws) n e .counted))
-
-  -- It changes no more than the first 2E words, and not their number.
-  is-searched : searched a l ws ≡ distances ++ drop (2 * n) ws
-  unfolding distances
-  is-searched = sym (searched-nodes a l ws n e)
-
-  pub searched-length : length (searched a l ws) ≡ length ws
-  searched-length =
-      ap length is-searched
-      ∙ omega (
-        arith,
-        length-append distances (drop (2 * n) ws),
-        first-words,
-        length-drop (2 * n) ws,
-        answer-fits a (length ws) n e .room,
-      )
-
-  -- So clearing after it leaves what clearing before it would have left.
-  pub cleared-searched : cleared a (searched a l ws) ≡ cleared a ws
-  cleared-searched =
-      let counted = answer-fits a (length ws) n e .counted in
-      let again : answered a (length (searched a l ws)) ≡ Searched·Nodes n = ap (answered a) searched-length ∙ e in
-      let behind : drop (2 * n) (searched a l ws) ≡ drop (2 * n) ws =
-      ap (drop (2 * n)) is-searched ∙ drop-at distances (drop (2 * n) ws) (2 * n) first-words in
-      sym (cleared-nodes a (searched a l ws) n again counted) ∙ ap (λ (k : List ℕ). replicate (2 * n) 0 ++ k) behind
-      ∙ cleared-nodes a ws n e counted
+near-length : (g : Graph) (s : ℕ) → length (nearWords g s) ≡ 2 * g .nodes
+unfolding nearWords
+near-length g s = words-length (λ v. near (distance g s) (distance (turned g s) v)) (g .nodes) 0
 
 module _ (t : Table) (ws : List ℕ) where
+  -- A search was made, so that the nodes are n.
+  module _ (n : ℕ) (e : answered (automatonOf t) (length ws) ≡ Searched·Nodes n) where
+    abbrev fits : Fits (automatonOf t) (length ws) n
+    fits = answer-fits (automatonOf t) (length ws) n e
+
+    -- It changes no more than the first 2E words.
+    searched-behind : (l : ℕ) → drop (2 * n) (searched (automatonOf t) l ws) ≡ drop (2 * n) ws
+    searched-behind l =
+        let new = nearWords (cornerGraph (automatonOf t) l) (startNode (automatonOf t)) in
+        let counted : length new ≡ 2 * n =
+        near-length (cornerGraph (automatonOf t) l) (startNode (automatonOf t)) ∙ ap (λ (k : ℕ). 2 * k) (graph-nodes (automatonOf t) l ∙ sym (fits .counted)) in
+        ap (drop (2 * n)) (sym (searched-nodes (automatonOf t) l ws n e)) ∙ drop-at new (drop (2 * n) ws) (2 * n) counted
+
+    -- So clearing after it, and after what leaves the words behind as they are, leaves what clearing before it would have left.
+    pub cleared-searched :
+        (l : ℕ) (ws′ : List ℕ) → RestKept t (searched (automatonOf t) l ws) ws′ → cleared (automatonOf t) ws′ ≡ cleared (automatonOf t) ws
+    cleared-searched l ws′ k =
+        let size : length ws′ ≡ length ws = k .kept ∙ searched-length t l ws in
+        let again : answered (automatonOf t) (length ws′) ≡ Searched·Nodes n = ap (answered (automatonOf t)) size ∙ e in
+        let behind : drop (2 * n) ws′ ≡ drop (2 * n) ws =
+        ap (λ (m : ℕ). drop (2 * m) ws′) (fits .counted) ∙ k .rest
+        ∙ ap (λ (m : ℕ). drop (2 * m) (searched (automatonOf t) l ws)) (sym (fits .counted)) ∙ searched-behind l in
+        sym (cleared-nodes (automatonOf t) ws′ n again (fits .counted)) ∙ ap (λ (v : List ℕ). replicate (2 * n) 0 ++ v) behind
+        ∙ cleared-nodes (automatonOf t) ws n e (fits .counted)
+
   -- The words after a search for the table's goal.
   pub found-searched :
       (n : ℕ) (ws′ : List ℕ) → IsTable t → answered (automatonOf t) (length ws) ≡ Searched·Nodes n
-      → ws′ ≡ searched (automatonOf t) (t .goal) ws → Found t ws′
+      → ws′ ≡ searched (automatonOf t) (t .goal) ws → Found t n ws′
   found-searched n ws′ k e is =
-      let a = automatonOf t in
-      let f = answer-fits a (length ws) n e in
-      let few : nodeCount a ≤ mostNodes = omega (arith, f .counted, f .few) in
-      let room : 2 * nodeCount a ≤ length ws = omega (arith, f .counted, f .room) in
+      let f = answer-fits (automatonOf t) (length ws) n e in
+      let few : nodeCount (automatonOf t) ≤ mostNodes = omega (arith, f .counted, f .few) in
+      let room : 2 * nodeCount (automatonOf t) ≤ length ws = omega (arith, f .counted, f .room) in
       rw is (record {
         is-table = k;
-        few = few;
-        room = omega (arith, searched-length a (t .goal) ws n e);
-        best = searched-best t k (t .goal) ws few room;
+        counted = f .counted;
+        few = f .few;
+        room = searched-room t k (t .goal) ws few room n (t .modes) (f .counted) refl;
+        near = searched-near t k (t .goal) ws few room;
       })
 
   -- A refusal before the search.
@@ -116,14 +105,14 @@ module _ (t : Table) (ws : List ℕ) where
 
   -- An answer read off the words of the search, which are cleared then.
   pub table-searched :
-      (n : ℕ) (ws′ ws″ rs rs′ : List ℕ) (r : Answer) → answered (automatonOf t) (length ws) ≡ Searched·Nodes n
-      → ws′ ≡ searched (automatonOf t) (t .goal) ws → ws″ ≡ cleared (automatonOf t) ws′ → ReadOff t rs rs′ r
-      → outcome r ws″ rs′ ≡ plannedTable (automatonOf t) ws rs
+      (n : ℕ) (ws′ ws″ vs rs rs′ : List ℕ) (r : Answer) → answered (automatonOf t) (length ws) ≡ Searched·Nodes n
+      → ws′ ≡ searched (automatonOf t) (t .goal) ws → ReadOff t ws′ rs ws″ rs′ r → vs ≡ cleared (automatonOf t) ws″
+      → outcome r vs rs′ ≡ plannedTable (automatonOf t) ws rs
   unfolding plannedTable fields
-  table-searched n ws′ ws″ rs rs′ r e is clear off =
-      let a = automatonOf t in
-      ap (λ (v : List ℕ). outcome r v rs′) (clear ∙ ap (cleared a) is ∙ cleared-searched a (t .goal) ws n e)
-      ∙ off ws ∙ sym (ap (λ (s : Searched). afterRoom s a ws rs) e)
+  table-searched n ws′ ws″ vs rs rs′ r e is off clear =
+      let kept : RestKept t (searched (automatonOf t) (t .goal) ws) ws″ = rw (← is) (off .words) in
+      ap (λ (v : List ℕ). outcome r v rs′) (clear ∙ cleared-searched n e (t .goal) ws″ kept)
+      ∙ off .is-answer ws ∙ sym (ap (λ (s : Searched). afterRoom s (automatonOf t) ws rs) e)
 
 -- A call with the outcome of the definitions keeps demand 3.
 pub outcome-keeps :

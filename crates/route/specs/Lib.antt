@@ -2,7 +2,7 @@
 pub mod Plan
 pub mod Promise
 -- And those of the private functions.
-pub mod Choose
+pub mod Walk
 -- The outcome of the definitions keeps demand 3.
 pub mod Keeps
 -- The numbers of refusals.

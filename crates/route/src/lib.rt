@@ -5,12 +5,13 @@ ghost use Rattle.reader.specs.Held.{IsTable};
 ghost use Rattle.search.specs.Regions.{automatonOf};
 ghost use Rattle.route.specs.Plan.{outcome, plannedTable, planned};
 ghost use Rattle.route.specs.Promise.{KeepsDemand};
-ghost use Rattle.route.specs.Choose.{Found, Onward, IsChosen, Reached, Written, ReadOff};
+ghost use Rattle.route.specs.Walk.{Found, ReadOff, WalkReady, Walked, ChooseReady, Choice, FollowReady, Follows, MarkReady, Marks};
 use reader::Table;
 use reader::Verdict;
+use regions::Region;
 use search::INFINITY;
 use search::Searched;
-use search::places;
+use search::near;
 use search::places::Place;
 
 // "10: the route has more steps than route bytes lent".
@@ -26,6 +27,12 @@ pub enum Answer {
 // A step byte, and the place to which the step leads.
 pub struct Chosen {
     pub byte: u8,
+    pub place: Place,
+}
+
+// The place to which so many steps of the route lead.
+pub struct Mark {
+    pub depth: usize,
     pub place: Place,
 }
 
@@ -56,12 +63,11 @@ fn plan_table(table: Table, words: &mut [u32], route: &mut [u8]) -> Answer
         ≡ plannedTable (automatonOf table) (now (words .entry)) (now (route .entry))
         ⌝ }
 {
-    let goal = table.goal;
-    let searched = search::search(table, goal, words);
+    let searched = search::search(table, table.goal, words);
     match searched {
         Searched::Refused(n) => Answer::Refused(n),
-        Searched::Nodes(_) => {
-            let answer = read_route(table, words, route);
+        Searched::Nodes(nodes) => {
+            let answer = read_route(table, nodes, words, route);
             search::clear(table, words);
             answer
         }
@@ -69,12 +75,12 @@ fn plan_table(table: Table, words: &mut [u32], route: &mut [u8]) -> Answer
 }
 
 // Reads the answer off the words of a search, and writes the route.
-fn read_route(table: Table, words: &[u32], route: &mut [u8]) -> Answer
-    requires { ⌜ Found table (now words) ⌝ }
-    ensures { λ r. ⌜ ReadOff table (now (route .entry)) (now (route .exit)) r ⌝ }
+fn read_route(table: Table, nodes: usize, words: &mut [u32], route: &mut [u8]) -> Answer
+    requires { ⌜ Found table nodes (now words) ⌝ }
+    ensures { λ r. ⌜ ReadOff table (now (words .entry)) (now (route .entry)) (now (words .exit)) (now (route .exit)) r ⌝ }
 {
-    let start = Place::start(table);
-    let cost = start.cost(table, words, 0);
+    let goal = table.goal;
+    let cost = near::best(words, nodes, goal, table.modes);
     let charge = cost.charge;
     let steps = cost.steps as usize;
     if charge == INFINITY {
@@ -83,45 +89,279 @@ fn read_route(table: Table, words: &[u32], route: &mut [u8]) -> Answer
     if route.len() < steps {
         return Answer::Refused(ROUTE_TOO_LONG);
     }
-    write_route(table, words, charge, steps, route);
+    let start = Place::start(table);
+    let ceilings = table.ceilings;
+    walk(
+        words,
+        route,
+        start,
+        goal,
+        table.moves,
+        ceilings,
+        &table.rates,
+        &table.invariants,
+        &table.sources,
+        &table.targets,
+        &table.prices,
+        &table.guards,
+        &table.resets,
+    );
     Answer::Route(charge, steps)
 }
 
-// "the route is one with fewest steps; among those the first in byte order": at each step the least byte that keeps on a best chain.
-fn write_route(table: Table, words: &[u32], charge: u32, steps: usize, route: &mut [u8])
-    requires { ⌜ Reached table (now words) charge steps (length (now route)) ⌝ }
-    ensures { λ _. ⌜ Written table charge steps (now (route .entry)) (now (route .exit)) ⌝ }
+// "the route is one with fewest steps; among those the first in byte order": goes on by the least byte that leads to a place that stands by the words.
+// Where none does, the place is left for good, and the step before is taken back.
+fn walk<'a>(
+    words: &mut [u32],
+    route: &mut [u8],
+    start: Place,
+    goal: usize,
+    moves: usize,
+    ceilings: [u8; Region::MOST_TIMERS],
+    rates: &'a [u16],
+    invariants: &'a [u8],
+    sources: &'a [u8],
+    targets: &'a [u8],
+    prices: &'a [u16],
+    guards: &'a [u8],
+    resets: &'a [u8],
+)
+    requires { ⌜
+        WalkReady start goal moves ceilings (now rates) (now invariants) (now sources) (now targets) (now prices) (now guards) (now resets)
+        (now words) (now route)
+        ⌝ }
+    ensures { λ _. ⌜
+        Walked start goal moves ceilings (now (rates .entry)) (now (invariants .entry)) (now (sources .entry)) (now (targets .entry))
+        (now (prices .entry)) (now (guards .entry)) (now (resets .entry)) (now (words .entry)) (now (route .entry)) (now (words .exit))
+        (now (route .exit))
+        ⌝ }
 {
-    let mut place = Place::start(table);
-    let mut i = 0;
-    while i < steps {
-        let left = steps - 1 - i;
-        let chosen = choose(table, words, place, charge, left as u32);
-        route[i] = chosen.byte;
-        place = chosen.place;
-        i += 1;
+    let mut place = start;
+    let mut depth: usize = 0;
+    let mut first: u8 = 0;
+    let mut mark = Mark {
+        depth: 0,
+        place: start,
+    };
+    let mut before = mark;
+    while place.mode != goal {
+        let chosen = choose(
+            words,
+            place,
+            first,
+            depth as u32 + 1,
+            moves,
+            ceilings,
+            rates,
+            invariants,
+            sources,
+            targets,
+            prices,
+            guards,
+            resets,
+        );
+        if chosen.byte < 66 {
+            before = Mark { depth, place };
+            if 16 <= depth - mark.depth {
+                mark = before;
+            }
+            route[depth] = chosen.byte;
+            depth += 1;
+            place = chosen.place;
+            first = 0;
+        } else {
+            place.leave(ceilings, words, depth as u32);
+            depth -= 1;
+            first = route[depth] + 1;
+            if before.depth == depth {
+                place = before.place;
+                if depth < mark.depth {
+                    mark = before;
+                }
+            } else {
+                mark = mark_before(
+                    mark,
+                    start,
+                    route,
+                    depth,
+                    moves,
+                    ceilings,
+                    rates,
+                    invariants,
+                    sources,
+                    targets,
+                    prices,
+                    guards,
+                    resets,
+                );
+                place = follow(
+                    mark.place,
+                    route,
+                    mark.depth,
+                    depth,
+                    moves,
+                    ceilings,
+                    rates,
+                    invariants,
+                    sources,
+                    targets,
+                    prices,
+                    guards,
+                    resets,
+                );
+            }
+        }
     }
 }
 
-// The least byte whose step leads to a place from which the charge is completed with so many steps left.
-fn choose(table: Table, words: &[u32], place: Place, charge: u32, left: u32) -> Chosen
-    requires { ⌜ Onward table (now words) place charge left ⌝ }
-    ensures { λ r. ⌜ IsChosen table (now (words .entry)) place charge left r ⌝ }
+// The least byte from `first` on whose step leads to a place that stands after so many steps, or a byte from 66 on if none does.
+fn choose<'a>(
+    words: &[u32],
+    place: Place,
+    first: u8,
+    steps: u32,
+    moves: usize,
+    ceilings: [u8; Region::MOST_TIMERS],
+    rates: &'a [u16],
+    invariants: &'a [u8],
+    sources: &'a [u8],
+    targets: &'a [u8],
+    prices: &'a [u16],
+    guards: &'a [u8],
+    resets: &'a [u8],
+) -> Chosen
+    requires { ⌜
+        ChooseReady place first moves ceilings (now rates) (now invariants) (now sources) (now targets) (now prices) (now guards) (now resets)
+        (now words)
+        ⌝ }
+    ensures { λ r. ⌜
+        Choice place first steps moves ceilings (now (rates .entry)) (now (invariants .entry)) (now (sources .entry)) (now (targets .entry))
+        (now (prices .entry)) (now (guards .entry)) (now (resets .entry)) (now (words .entry)) r
+        ⌝ }
 {
-    let sources = table.sources;
-    let mut byte: u8 = 0;
+    let mut byte = place.next_step(first, moves, sources, guards);
     while byte < 66 {
-        if places::may_take(&sources, table.moves, place.mode, byte) {
-            let stepped = place.step(table, byte);
-            let allowed = stepped.allowed;
-            let next = stepped.place;
-            if allowed {
-                if next.completes(table, words, charge, left) {
-                    return Chosen { byte, place: next };
-                }
+        let stepped = place.step(
+            byte,
+            moves,
+            ceilings,
+            rates,
+            invariants,
+            sources,
+            targets,
+            prices,
+            guards,
+            resets,
+        );
+        let allowed = stepped.allowed;
+        let next = stepped.place;
+        if allowed {
+            if next.stands(ceilings, words, steps) {
+                return Chosen { byte, place: next };
             }
         }
-        byte += 1;
+        byte = place.next_step(byte + 1, moves, sources, guards);
     }
     Chosen { byte, place }
+}
+
+// The place to which the route's bytes from `first` to `end` lead on from a place.
+fn follow<'a>(
+    place: Place,
+    route: &[u8],
+    first: usize,
+    end: usize,
+    moves: usize,
+    ceilings: [u8; Region::MOST_TIMERS],
+    rates: &'a [u16],
+    invariants: &'a [u8],
+    sources: &'a [u8],
+    targets: &'a [u8],
+    prices: &'a [u16],
+    guards: &'a [u8],
+    resets: &'a [u8],
+) -> Place
+    requires { ⌜
+        FollowReady place (now route) first end moves ceilings (now rates) (now invariants) (now sources) (now targets) (now prices)
+        (now guards) (now resets)
+        ⌝ }
+    ensures { λ r. ⌜
+        Follows place (now (route .entry)) first end moves ceilings (now (rates .entry)) (now (invariants .entry)) (now (sources .entry))
+        (now (targets .entry)) (now (prices .entry)) (now (guards .entry)) (now (resets .entry)) r
+        ⌝ }
+{
+    let mut at = place;
+    for i in first..end {
+        let stepped = at.step(
+            route[i],
+            moves,
+            ceilings,
+            rates,
+            invariants,
+            sources,
+            targets,
+            prices,
+            guards,
+            resets,
+        );
+        at = stepped.place;
+    }
+    at
+}
+
+// A mark at most 8 steps before `depth`: the one there was, if it is, and otherwise one 4 steps before. So a step is taken back in few steps.
+fn mark_before<'a>(
+    mark: Mark,
+    start: Place,
+    route: &[u8],
+    depth: usize,
+    moves: usize,
+    ceilings: [u8; Region::MOST_TIMERS],
+    rates: &'a [u16],
+    invariants: &'a [u8],
+    sources: &'a [u8],
+    targets: &'a [u8],
+    prices: &'a [u16],
+    guards: &'a [u8],
+    resets: &'a [u8],
+) -> Mark
+    requires { ⌜
+        MarkReady mark start (now route) depth moves ceilings (now rates) (now invariants) (now sources) (now targets) (now prices)
+        (now guards) (now resets)
+        ⌝ }
+    ensures { λ r. ⌜
+        Marks mark start (now (route .entry)) depth moves ceilings (now (rates .entry)) (now (invariants .entry)) (now (sources .entry))
+        (now (targets .entry)) (now (prices .entry)) (now (guards .entry)) (now (resets .entry)) r
+        ⌝ }
+{
+    let from = if depth < mark.depth {
+        Mark {
+            depth: 0,
+            place: start,
+        }
+    } else {
+        mark
+    };
+    if depth - from.depth <= 8 {
+        return from;
+    }
+    let place = follow(
+        from.place,
+        route,
+        from.depth,
+        depth - 4,
+        moves,
+        ceilings,
+        rates,
+        invariants,
+        sources,
+        targets,
+        prices,
+        guards,
+        resets,
+    );
+    Mark {
+        depth: depth - 4,
+        place,
+    }
 }

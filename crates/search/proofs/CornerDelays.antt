@@ -1,65 +1,68 @@
--- A delay from the corners of a region, corner by corner of the delayed region: what is relaxed so far.
+-- A delay from the corners of a region, corner by corner of the delayed region: what was offered so far.
 -- Assumes nothing.
 use mathlib.Core.Path.{_≡_, refl, sym}
-use mathlib.Core.Bool.{Bool, false, _||_}
 use mathlib.Core.List.{List}
-use Prim.Native.Nat.{ℕ, suc, _+_, _≤_, _<_}
+use Prim.Native.Nat.{ℕ, _+_, _≤_, _<_}
 use native.Mathlib.Decide.{ℕ-discrete}
 use native.Mathlib.Omega.{arith}
 use lib.ListN.{getD}
-use Rattle.semantics.specs.Path.{Graph}
-use Rattle.semantics.specs.Paths.Update.{Update, Relaxes, Fresh, update-none}
-use Rattle.search.specs.Edges.{EdgeAt, EdgeRelaxed, edgeTo, delayWeight, DelayAt, DelayDone}
-use Rattle.search.proofs.Families.{family-update, family-new, family-kept}
+use Rattle.semantics.specs.Path.{Graph, infinity}
+use Rattle.search.specs.Edges.{OfferAt, Offered, OfferMade, Sent, SentOn, edgeTo, delayWeight, DelayAt, DelayDone}
+use Rattle.search.proofs.Offers.{sent-none, offer-end}
+use Rattle.search.proofs.Sending.{Lesser, sent-then, sent-kept, sent-new}
 
-module _ (g : Graph) (nodes from top : ℕ) (prices : List ℕ) (last to rate : ℕ) where
-  -- The edges to the corners below i were relaxed.
-  pub record DelayedTo (i : ℕ) (ws ws′ : List ℕ) (changed : Bool) : Type 0 where
-    pub update : Update g from (from + suc top) ws ws′ changed
+module _ (g : Graph) (s nodes from top : ℕ) (prices : List ℕ) (last to rate low : ℕ) where
+  -- The edges to the corners below i were offered.
+  pub record DelayedTo (i : ℕ) (ws ws′ : List ℕ) (r : ℕ) : Type 0 where
+    pub sent : Sent g s low to last ws ws′ r
     pub edges :
-        (k : ℕ) → k < i
-        → Fresh g from (from + suc top) ws′ changed (from + getD prices k 0) (edgeTo 64 (delayWeight top rate k) to k)
+        (k : ℕ) → k < i → SentOn g s low to last ws′ r (from + getD prices k 0) (edgeTo 64 (delayWeight top rate k) to k)
 
-  module _ (ws : List ℕ) (delay : DelayAt g nodes from top prices last to rate ws) where
-    pub delayed-none : DelayedTo 0 ws ws false
-    delayed-none = record { update = update-none from (from + suc top) (delay .sound); edges = λ k h. absurd (omega arith) }
+  module _ (ws : List ℕ) (delay : DelayAt g s nodes from top prices last to rate ws) where
+    -- Before the first corner.
+    pub delayed-none : DelayedTo 0 ws ws infinity
+    delayed-none = record { sent = sent-none low to last (delay .sound); edges = λ k h. absurd (omega arith) }
 
-    module _ (i weight : ℕ) (ws′ : List ℕ) (a : Bool) (h : i ≤ last) (weighs : weight ≡ delayWeight top rate i)
-        (before : DelayedTo i ws ws′ a) where
+    module _ (i weight : ℕ) (ws′ : List ℕ) (r : ℕ) (h : i ≤ last) (weighs : weight ≡ delayWeight top rate i)
+        (before : DelayedTo i ws ws′ r) where
       -- The edge to corner i is ready.
-      pub delayed-edge : EdgeAt g (edgeTo 64 (delayWeight top rate i) to i) nodes (from + getD prices i 0) (to + i) weight ws′
+      pub delayed-edge : OfferAt g s (edgeTo 64 (delayWeight top rate i) to i) nodes (from + getD prices i 0) (to + i) weight ws′
       delayed-edge = record {
         graph = delay .graph;
-        sound = before .update .sound;
+        sound = before .sent .update .sound;
         there = omega (arith, delay .fits, delay .among i h);
         leaves = delay .leaves i h;
         leads = refl;
         weighs = sym weighs;
       }
 
+      -- It was offered.
       pub delayed-more :
-          (ws″ : List ℕ) (b k : Bool) → (a || b) ≡ k → EdgeRelaxed nodes (from + getD prices i 0) (to + i) weight ws′ ws″ b
-          → DelayedTo (i + 1) ws ws″ k
-      delayed-more ws″ b k flag relaxed =
-          record { update = family-update a b flag low high (before .update) one; edges = λ m n. at m n (ℕ-discrete m i) }
+          (ws″ : List ℕ) (r′ m : ℕ) → Lesser r r′ m → OfferMade nodes (from + getD prices i 0) (to + i) weight low ws′ ws″ r′
+          → DelayedTo (i + 1) ws ws″ m
+      delayed-more ws″ r′ m least made = record {
+        sent = sent-then (delay .graph) i h inside (before .sent) (one .sent) least;
+        edges = λ k n. at k n (ℕ-discrete k i);
+      }
         where
-          low : from ≤ from + getD prices i 0
-          low = omega arith
+          inside : to + i < nodes
+          inside = offer-end delayed-edge
 
-          high : from + getD prices i 0 < from + suc top
-          high = omega (arith, delay .among i h)
-
-          one : Relaxes g (from + getD prices i 0) (edgeTo 64 (delayWeight top rate i) to i) ws′ ws″ b
-          one = relaxed g (edgeTo 64 (delayWeight top rate i) to i) delayed-edge
+          one : Offered g s (edgeTo 64 (delayWeight top rate i) to i) (from + getD prices i 0) (to + i) low ws′ ws″ r′
+          one = made g s (edgeTo 64 (delayWeight top rate i) to i) delayed-edge
 
           at :
-              (m : ℕ) → m < i + 1 → Dec (m ≡ i)
-              → Fresh g from (from + suc top) ws″ k (from + getD prices m 0) (edgeTo 64 (delayWeight top rate m) to m)
-          at m n (yes e) = rw e (family-new a b flag low high (before .update) one)
-          at m n (no d) =
-              family-kept a b flag low high (before .update) one (from + getD prices m 0) (edgeTo 64 (delayWeight top rate m) to m)
-              (before .edges m (omega arith))
+              (k : ℕ) → k < i + 1 → Dec (k ≡ i)
+              → SentOn g s low to last ws″ m (from + getD prices k 0) (edgeTo 64 (delayWeight top rate k) to k)
+          at k n (yes e) =
+              rw e
+              (sent-new (delay .graph) i h inside (before .sent) (one .sent) least (from + getD prices i 0)
+              (edgeTo 64 (delayWeight top rate i) to i) (one .edge))
+          at k n (no d) =
+              sent-kept (delay .graph) i h inside (before .sent) (one .sent) least (from + getD prices k 0)
+              (edgeTo 64 (delayWeight top rate k) to k) (before .edges k (omega arith))
 
     -- All corners.
-    pub delayed-all : (i : ℕ) (ws′ : List ℕ) (a : Bool) → last < i → DelayedTo i ws ws′ a → DelayDone g from top prices last to rate ws ws′ a
-    delayed-all i ws′ a h done = record { update = done .update; edges = λ k n. done .edges k (omega arith) }
+    pub delayed-all :
+        (i : ℕ) (ws′ : List ℕ) (r : ℕ) → last < i → DelayedTo i ws ws′ r → DelayDone g s from top prices last to rate low ws ws′ r
+    delayed-all i ws′ r h done = record { sent = done .sent; edges = λ k n. done .edges k (omega arith) }

@@ -17,6 +17,7 @@ use Rattle.semantics.specs.Answers.Places.{IsPlace, corner-top, number-below}
 use Rattle.semantics.specs.Answers.Graph.{graph-nodes, graph-closed, graph-weights}
 use Rattle.semantics.specs.Answers.Moving.{number-row}
 use Rattle.semantics.specs.Answers.Waiting.{Indexed}
+use Rattle.semantics.specs.Near.{turned}
 use Rattle.semantics.specs.Paths.Update.{Update}
 use Rattle.reader.specs.declared.Table.{Table}
 use Rattle.reader.specs.Held.{IsTable}
@@ -27,7 +28,7 @@ use Rattle.regions.specs.Nodes.{CeilingsFew, Padded}
 use Rattle.regions.specs.Laws.Fields.{holds, top-is}
 use Rattle.regions.specs.Laws.Nodes.{table-padded, table-few}
 use Rattle.search.specs.Edges.{mostWeight, Searchable}
-use Rattle.search.specs.Regions.{automatonOf, graphOf, Searching, placeOf, RegionAt}
+use Rattle.search.specs.Regions.{automatonOf, graphOf, startOf, Searching, placeOf, RegionAt}
 
 module _ {t : Table} {l nodes : ℕ} {ceilings ws : List ℕ} (s : Searching t l nodes ceilings ws) where
   pub searching-proper : Proper (automatonOf t)
@@ -46,7 +47,7 @@ module _ {t : Table} {l nodes : ℕ} {ceilings ws : List ℕ} (s : Searching t l
       }
 
   -- The search goes on after an update.
-  pub searching-again : {lo hi : ℕ} {ws′ : List ℕ} {b : Bool} → Update (graphOf t l) lo hi ws ws′ b → Searching t l nodes ceilings ws′
+  pub searching-again : {lo hi : ℕ} {ws′ : List ℕ} {b : Bool} → Update (turned (graphOf t l) (startOf t)) lo hi ws ws′ b → Searching t l nodes ceilings ws′
   searching-again u =
       record { is-table = s .is-table; counted = s .counted; few = s .few; ceilings-are = s .ceilings-are; sound = u .sound }
 

@@ -11,12 +11,13 @@ use lib.ListN.{length, getD, take}
 use Rattle.semantics.specs.Automaton.{Automaton, Mode, Move, modeAt, moveAt}
 use Rattle.semantics.specs.Region.{PricedRegion, top, resetAll, meetsAll}
 use Rattle.semantics.specs.Path.{Edge, Leaves}
-use Rattle.semantics.specs.Node.{nodeNumber, nodeOf}
+use Rattle.semantics.specs.Node.{nodeCount, nodeNumber, nodeOf}
 use Rattle.semantics.specs.Chain.{Place}
 use Rattle.semantics.specs.CornerPath.{resetAllCorner}
 use Rattle.semantics.specs.CornerGraph.{numberOf}
 use Rattle.semantics.specs.Bounds.Prices.{price}
-use Rattle.semantics.specs.Answers.Places.{IsPlace}
+use Rattle.semantics.specs.Answers.Places.{IsPlace, corner-top, number-below}
+use Rattle.semantics.specs.Answers.Graph.{graph-nodes}
 use Rattle.semantics.specs.Answers.Moving.{number-row, movedTo, MoveEdge, edge-move, move-edge, moved-place, last-price, first-price}
 use Rattle.reader.specs.declared.Table.{Table}
 use Rattle.reader.specs.Meaning.{namedTimers}
@@ -28,8 +29,11 @@ use Rattle.regions.specs.Laws.Fields.{holds, top-is, price-at}
 use Rattle.regions.specs.Laws.Chain.{Gives}
 use Rattle.search.specs.Rows.{conditionsAt}
 use Rattle.search.specs.Edges.{LastAtMost, edgeTo}
-use Rattle.search.specs.Regions.{automatonOf, graphOf, placeOf, RegionAt, Own}
+use Rattle.search.specs.Regions.{automatonOf, graphOf, Classes, placeOf, RegionAt, Own}
+use Rattle.search.proofs.SameClass.{same-class, node-room}
+use Rattle.search.proofs.MovePass.{Corners}
 use Rattle.search.proofs.Graphs.{region-top, region-indexed, corner-number}
+use Rattle.search.proofs.Goals.{place-target}
 
 -- The places above n + 1 have more than the bound, and so has n + 1.
 from-here :
@@ -197,3 +201,19 @@ module _ (t : Table) (is : IsTable t) (l mode from : ℕ) (region : Region) (r :
           let weighs : x .weight ≡ getD (t .prices) e 0 = rw (d .labelled) at (tells .weighs) ∙ price-is in
           let ends : x .to ≡ to + found .0 = rw (d .labelled) at (tells .leads) ∙ sym (leads j (found .0) (d .corner) (found .1)) in
           (found .0, found .1, λ i. record { label = d .labelled i; weight = weighs i; to = ends i })
+
+      -- Where it leads: the corners of a region in the target.
+      pub move-corners : {block : ℕ} {pend : List ℕ} → Classes t block pend → Corners (graphOf t l) block l (getD (t .targets) e 0) to (moved .top)
+      move-corners {block} c =
+          let row : (i : ℕ) → i ≤ moved .top → to + i ≡ numberOf a after i =
+          λ i h. omega (arith, after-number, number-row a after after-place i (omega (arith, after-top))) in
+          let below : (i : ℕ) → i ≤ moved .top → to + i < nodeCount a =
+          λ i h.
+          let b = corner-top (after .region) (after-place .well-formed) i .1 (omega (arith, after-top)) in
+          omega (arith, row i h, number-below a after after-place i b) in
+          record {
+            fits = rw (graph-nodes a l) (below (moved .top) (omega arith));
+            one-class = λ i h. rw after-number (same-class is c after after-place i (omega (arith, after-top)));
+            few = node-room is c to (omega (arith, below 0 (omega arith))) .1;
+            targets = λ i h m. rw (row i h) (place-target a l after after-place i (omega (arith, after-top)) .1 (target-is ∙ m));
+          }

@@ -1,26 +1,27 @@
 -- Delay from the corners of a region, by the table: the code's tests are those of the step, its edges are those that the words' functions ask
--- for, and where a test fails there are none.
+-- for, and where a test fails there are none. What is lowered is above all corners of the region, and of one class.
 -- Assumes nothing.
 use mathlib.Core.Path.{_≡_, sym, ap, ap₂, _∙_, subst}
-use mathlib.Core.Bool.{Bool, true, false}
-use mathlib.Core.Logic.{inr}
+use mathlib.Core.Bool.{true, false}
+use mathlib.Core.Logic.{_⊎_, inl, inr}
 use mathlib.Core.List.{List}
-use Prim.Native.Nat.{ℕ, suc, _+_, _*_, _≤_, _<_}
+use Prim.Native.Nat.{ℕ, suc, _+_, _*_, _/_, _-_, _≤_, _<_}
 use native.Mathlib.Omega.{arith}
 use lib.ListN.{length, getD, take}
 use Rattle.semantics.specs.Automaton.{Automaton, Mode, modeAt}
 use Rattle.semantics.specs.Region.{PricedRegion, top, meetsAll, within}
-use Rattle.semantics.specs.Path.{Edge, Leaves, Relaxed, table}
-use Rattle.semantics.specs.Node.{nodeOf, nodeNumber}
+use Rattle.semantics.specs.Path.{Edge, Leaves, infinity, chargeAt}
+use Rattle.semantics.specs.Node.{nodeOf, nodeNumber, nodeCount}
 use Rattle.semantics.specs.Chain.{Place}
 use Rattle.semantics.specs.CornerGraph.{numberOf}
 use Rattle.semantics.specs.Bounds.Prices.{price}
 use Rattle.semantics.specs.Bounds.Steps.{rateAt}
-use Rattle.semantics.specs.Answers.Places.{IsPlace}
+use Rattle.semantics.specs.Answers.Places.{IsPlace, corner-top, number-below}
+use Rattle.semantics.specs.Answers.Graph.{graph-nodes}
 use Rattle.semantics.specs.Answers.Moving.{number-row}
 use Rattle.semantics.specs.Answers.Waiting.{delayedTo, DelayEdge, edge-delay, delay-edge, delay-comes}
 use Rattle.semantics.specs.Answers.WaitingNodes.{delayed-place, delay-above}
-use Rattle.semantics.specs.Paths.Update.{Outside, Fresh, update-none, fresh-outside}
+use Rattle.semantics.specs.Paths.Ahead.{mostClasses, RelaxedAt, Pass, pass-none}
 use Rattle.reader.specs.declared.Table.{Table}
 use Rattle.reader.specs.Theorems.Access.{mode-at, mode-count, counts, lengths, ceilings-are}
 use Rattle.regions.specs.declared.Region.{Region}
@@ -28,9 +29,13 @@ use Rattle.regions.specs.Held.{view}
 use Rattle.regions.specs.Nodes.{mostModes, CeilingsFew, Padded}
 use Rattle.regions.specs.Laws.Fields.{holds, top-is, price-at, top-few}
 use Rattle.search.specs.Rows.{conditionsAt}
-use Rattle.search.specs.Edges.{edgeTo, delayWeight, DelayAt, DelayDone}
-use Rattle.search.specs.Regions.{automatonOf, graphOf, placeOf, RegionAt, WaitsAt, DelaysAt, DelaysDone}
+use Rattle.search.specs.Classes.{lowered}
+use Rattle.search.specs.Edges.{edgeTo, delayWeight, SentOn, DelayAt, DelayDone}
+use Rattle.search.specs.Regions.{automatonOf, graphOf, startOf, placeOf, classEnd, RegionAt, Spread, WaitsAt, DelaysAt}
 use Rattle.search.proofs.Graphs.{searchable, searching-proper, region-top, region-indexed, corner-number, corner-below, searching-few, searching-padded}
+use Rattle.search.proofs.SameClass.{class-end, same-class, block-some, node-room}
+use Rattle.search.proofs.DelayPasses.{sent-to-come, sent-noted}
+use Rattle.search.proofs.Noting.{noted-is}
 
 -- An edge of a corner by the number of the corner in the graph.
 pub corner-leaves :
@@ -39,11 +44,12 @@ pub corner-leaves :
 corner-leaves r l j h e m = rw (corner-number r j h) m
 
 -- From the corners of a region with the table's rate and conditions.
-module _ {t : Table} {l nodes from mode : ℕ} {region : Region} {ceilings : List ℕ} {rate : ℕ} {invariants ws : List ℕ}
-    (w : WaitsAt t l nodes from mode region ceilings rate invariants ws) where
+module _ {t : Table} {l nodes block from mode : ℕ} {region : Region} {ceilings : List ℕ} {rate : ℕ} {invariants ws pend : List ℕ}
+    (w : WaitsAt t l nodes block from mode region ceilings rate invariants ws pend) where
   mode-there : mode < t .modes
   mode-there = omega (arith, w .at-region .place .in-modes, mode-count t (w .searching .is-table))
 
+  -- Its edges of delay are those of the step.
   pub corner-delay :
       (j : ℕ) → j ≤ region .top → (e : Edge) → Leaves (graphOf t l) (from + j) e → e .label ≡ 64
       → DelayEdge (automatonOf t) (placeOf mode region) j e
@@ -51,17 +57,8 @@ module _ {t : Table} {l nodes from mode : ℕ} {region : Region} {ceilings : Lis
       edge-delay (automatonOf t) l (placeOf mode region) (w .at-region .place) (region-indexed (w .at-region)) j
       (omega (arith, region-top (w .at-region))) e (corner-leaves (w .at-region) l j h e m) q
 
-  -- A delay leads outside the region.
-  pub delay-outside :
-      (j : ℕ) (e : Edge) → DelayEdge (automatonOf t) (placeOf mode region) j e → Outside from (from + suc (region .top)) (e .to)
-  delay-outside j e d =
-      let top-same = region-top (w .at-region) in
-      let above =
-      delay-above (automatonOf t) (placeOf mode region) (w .at-region .place) (d .corner) (region .top) (d .there) (omega arith) in
-      inr (omega (arith, ap (λ (x : Edge). x .to) (d .is), above, corner-number (w .at-region) (region .top) (omega arith)))
-
-module _ {t : Table} {l : ℕ} {region : Region} {nodes from mode over : ℕ} {delayed : Region} {ceilings : List ℕ} {rate : ℕ}
-    {invariants ws : List ℕ} (d : DelaysAt t l region nodes from mode over delayed ceilings rate invariants ws) where
+module _ {t : Table} {l : ℕ} {region : Region} {nodes block from mode over : ℕ} {delayed : Region} {ceilings : List ℕ} {rate : ℕ}
+    {invariants ws pend : List ℕ} (d : DelaysAt t l region nodes block from mode over delayed ceilings rate invariants ws pend) where
   abbrev a : Automaton
   a = automatonOf t
 
@@ -107,20 +104,25 @@ module _ {t : Table} {l : ℕ} {region : Region} {nodes from mode over : ℕ} {d
   pub ceilings-padded : Padded (delayed .timers) ceilings
   ceilings-padded = searching-padded (d .waits .searching) (delayed .timers) (d .timers-are)
 
+  -- What the delays of the region do at the charge low.
+  abbrev pub DelaysTo : ℕ → List ℕ → List ℕ → Type 0
+  DelaysTo low ws′ pend′ =
+      Spread t l block low (suc (from + region .top)) (classEnd block from) from region (λ k. k ≡ 64) ws pend ws′ pend′
+
   -- Where there is no edge of a delay, nothing is to be done.
-  delays-none :
-      ((j : ℕ) (e : Edge) → DelayEdge a p j e → ⊥) → DelaysDone t l from region ws ws false
-  delays-none none = record {
-    update = update-none from (from + suc (region .top)) (d .waits .searching .sound);
-    edges = λ j h e m q. absurd (none j e (corner-delay (d .waits) j h e m q));
+  delays-none : (low : ℕ) → ((j : ℕ) (e : Edge) → DelayEdge a p j e → ⊥) → DelaysTo low ws pend
+  delays-none low none = record {
+    pass = pass-none (d .waits .searching .sound);
+    edges = λ j h e m q _. absurd (none j e (corner-delay (d .waits) j h e m q));
   }
 
-  pub delays-outside : within (take (delayed .timers) ceilings) (view delayed) ≡ false → DelaysDone t l from region ws ws false
-  delays-outside f = delays-none (λ j e x. let o = x .ceilings in let q = within-same in let z : _≡_ {A = ℕ} 0 1 = cc in omega arith)
+  pub delays-outside : (low : ℕ) → within (take (delayed .timers) ceilings) (view delayed) ≡ false → DelaysTo low ws pend
+  delays-outside low f =
+      delays-none low (λ j e x. let o = x .ceilings in let q = within-same in let z : _≡_ {A = ℕ} 0 1 = cc in omega arith)
 
-  pub delays-unmet :
-      meetsAll (conditionsAt invariants mode) (view delayed) ≡ false → DelaysDone t l from region ws ws false
-  delays-unmet f = delays-none (λ j e x. let o = x .conditions in let q = meets-same in let z : _≡_ {A = ℕ} 0 1 = cc in omega arith)
+  pub delays-unmet : (low : ℕ) → meetsAll (conditionsAt invariants mode) (view delayed) ≡ false → DelaysTo low ws pend
+  delays-unmet low f =
+      delays-none low (λ j e x. let o = x .conditions in let q = meets-same in let z : _≡_ {A = ℕ} 0 1 = cc in omega arith)
 
   module _ (inside : within (take (delayed .timers) ceilings) (view delayed) ≡ true)
       (met : meetsAll (conditionsAt invariants mode) (view delayed) ≡ true) (to : ℕ)
@@ -161,7 +163,8 @@ module _ {t : Table} {l : ℕ} {region : Region} {nodes from mode over : ℕ} {d
         let leads = to-number i (omega (arith, last-top)) in
         λ k. record { label = 64; weight = weight k; to = leads k }
 
-    pub delays-ready : DelayAt (graphOf t l) nodes from over (delayed .prices) (delayed .top) to rate ws
+    -- What the callee asks for.
+    pub delays-ready : DelayAt (graphOf t l) (startOf t) nodes from over (delayed .prices) (delayed .top) to rate ws
     delays-ready =
         let region-at = d .waits .at-region in
         record {
@@ -177,18 +180,78 @@ module _ {t : Table} {l : ℕ} {region : Region} {nodes from mode over : ℕ} {d
               (delay-edge a l p here (region-indexed region-at) (sym meets-same ∙ met) (sym within-same ∙ inside) i (omega (arith, last-top))));
         }
 
-    pub delays-done :
-        {ws′ : List ℕ} {b : Bool} → DelayDone (graphOf t l) from over (delayed .prices) (delayed .top) to rate ws ws′ b
-        → DelaysDone t l from region ws ws′ b
-    delays-done {ws′} {b} done =
-        record { update = rw (← d .top-is) (done .update); edges = λ j h e m q. relaxed j e (corner-delay (d .waits) j h e m q) }
-      where
-        relaxed : (j : ℕ) (e : Edge) → DelayEdge a p j e → Relaxed (graphOf t l) (table ws′) (from + j) e
-        relaxed j e x =
-            let i = x .corner in
-            let b′ : i ≤ delayed .top = omega (arith, last-top, x .there) in
-            let f : Fresh (graphOf t l) from (from + suc over) ws′ b (from + getD (delayed .prices) i 0) (edgeTo 64 (delayWeight over rate i) to i) =
-            done .edges i b′ in
-            let f′ : Fresh (graphOf t l) from (from + suc (region .top)) ws′ b (from + j) e =
-            rw (← d .top-is, ← (price-same i ∙ x .comes), x .is ∙ edge-same i b′) f in
-            fresh-outside f′ (delay-outside (d .waits) j e x)
+    -- The corners after the delay are nodes above those before it, and of one class.
+    to-below : to + delayed .top < nodeCount a
+    to-below =
+        let b = corner-top (delayedTo p .region) (after .well-formed) (delayed .top) .1 (omega (arith, last-top)) in
+        omega (arith, to-number (delayed .top) (omega (arith, last-top)), number-below a (delayedTo p) after (delayed .top) b)
+
+    to-above : from + region .top < to
+    to-above =
+        omega (
+          arith,
+          to-first,
+          corner-number (d .waits .at-region) (region .top) (omega arith),
+          delay-above a p here 0 (region .top) (omega arith) (omega (arith, region-top (d .waits .at-region))),
+        )
+
+    to-nodes : to + delayed .top < graphOf t l .nodes
+    to-nodes = rw (graph-nodes a l) to-below
+
+    to-class : (w : ℕ) → to ≤ w → w ≤ to + delayed .top → w / block ≡ to / block
+    to-class w h k =
+        let i = w - to in
+        let is : w ≡ numberOf a (delayedTo p) 0 + i = omega (arith, to-first) in
+        ap (λ (v : ℕ). v / block) is
+        ∙ same-class (d .waits .searching .is-table) (d .waits .classes) (delayedTo p) after i (omega (arith, last-top))
+        ∙ ap (λ (v : ℕ). v / block) (sym to-first)
+
+    -- What the code asks of the class.
+    pub class-some : 0 < block
+    class-some = block-some (d .waits .searching .is-table) (d .waits .classes)
+
+    pub to-room : to / block < mostClasses
+    to-room = node-room (d .waits .searching .is-table) (d .waits .classes) to (omega (arith, to-below)) .1
+
+    module _ {low r : ℕ} {ws′ : List ℕ} (done : DelayDone (graphOf t l) (startOf t) from over (delayed .prices) (delayed .top) to rate low ws ws′ r) where
+      -- The edges are relaxed: the nodes that were stored are above those that they leave.
+      relaxed :
+          (j : ℕ) → j ≤ region .top → (e : Edge) → DelayEdge a p j e → low ≤ chargeAt ws′ (from + j)
+          → RelaxedAt (graphOf t l) (startOf t) ws′ (from + j) e
+      relaxed j h e x least = at (sent least)
+        where
+          b : x .corner ≤ delayed .top
+          b = omega (arith, last-top, x .there)
+
+          sent : SentOn (graphOf t l) (startOf t) low to (delayed .top) ws′ r (from + j) e
+          sent = rw (← (price-same (x .corner) ∙ x .comes), x .is ∙ edge-same (x .corner) b) (done .edges (x .corner) b)
+
+          at :
+              RelaxedAt (graphOf t l) (startOf t) ws′ (from + j) e
+              ⊎ ((to ≤ from + j) × (from + j < to + suc (delayed .top)) × (r ≤ chargeAt ws′ (from + j)))
+              → RelaxedAt (graphOf t l) (startOf t) ws′ (from + j) e
+          at (inl y) = y
+          at (inr y) = absurd (omega (arith, y .0, to-above))
+
+      -- With what is noted of the class, or left as it was.
+      spread :
+          {pend′ : List ℕ} → Pass (graphOf t l) (startOf t) block low (suc (from + region .top)) (classEnd block from) ws pend ws′ pend′
+          → DelaysTo low ws′ pend′
+      spread pass = record { pass = pass; edges = λ j h e m q least. inl (relaxed j h e (corner-delay (d .waits) j h e m q) least) }
+
+      -- Nodes of the same class are still to come.
+      pub delays-same : from / block ≡ to / block → DelaysTo low ws′ pend
+      delays-same same =
+          let end : to + delayed .top < classEnd block (to + delayed .top) = class-end block (to + delayed .top) class-some in
+          let here : (to + delayed .top) / block ≡ from / block = to-class (to + delayed .top) (omega arith) (omega arith) ∙ sym same in
+          spread
+          (sent-to-come (done .sent) block (suc (from + region .top)) (classEnd block from) pend to-nodes (omega (arith, to-above)) (rw here at end))
+
+      -- Another class is noted.
+      pub delays-noted : {pend′ : List ℕ} → getD pend (to / block) 0 ≤ infinity → pend′ ≡ lowered pend (to / block) r → DelaysTo low ws′ pend′
+      delays-noted known e =
+          let room = d .waits .classes .room in
+          rw e
+          (spread
+          (sent-noted (done .sent) block (suc (from + region .top)) (classEnd block from) pend to-nodes (to / block) to-room room
+          (omega (arith, known, noted-is pend (to / block) (omega (arith, to-room)))) to-class))

@@ -1,6 +1,6 @@
 -- The relaxing of an edge, by the words: what is known before it, and what it leaves, be the edge passed over or its cost stored.
 -- Assumes nothing.
-use mathlib.Core.Path.{_≡_}
+use mathlib.Core.Path.{_≡_, _∙_}
 use mathlib.Core.Bool.{true, false}
 use mathlib.Core.Logic.{_≢_}
 use mathlib.Core.List.{List}
@@ -8,11 +8,11 @@ use Prim.Native.Nat.{ℕ, suc, _+_, _*_, _≤_, _<_}
 use native.Mathlib.Omega.{arith}
 use lib.ListN.{length}
 use Rattle.semantics.specs.Path.{Edge, Graph, cost, _≼_, _≺_, infinity, chargeAt, stepsAt}
-use Rattle.semantics.specs.Paths.Words.{stored}
+use Rattle.semantics.specs.Paths.Words.{stored, stored-charge}
 use Rattle.semantics.specs.Paths.Sound.{costAt, sound-bound, relaxed-words, relaxed-stored}
-use Rattle.semantics.specs.Paths.Update.{Relaxes, update-none, update-stored}
+use Rattle.semantics.specs.Paths.Update.{update-none, update-stored}
 use Rattle.regions.specs.Nodes.{mostNodes}
-use Rattle.search.specs.Edges.{mostWeight, EdgeAt, EdgeReady}
+use Rattle.search.specs.Edges.{mostWeight, EdgeAt, EdgeReady, EdgeDone}
 
 -- What the code needs to know for its indices and sums.
 pub record InRange (nodes from to weight : ℕ) (ws : List ℕ) : Type 0 where
@@ -49,17 +49,20 @@ module _ {g : Graph} {e : Edge} {nodes from to weight : ℕ} {ws : List ℕ} (ed
   pub edge-passed :
       (chargeAt ws to ≢ infinity → suc (stepsAt ws to) < nodes
       → (chargeAt ws from ≢ infinity) × (costAt ws from ≼ cost (weight + chargeAt ws to) (suc (stepsAt ws to))))
-      → Relaxes g from e ws ws false
+      → EdgeDone g e from to weight ws ws false
   edge-passed shown = record {
-    update = update-none from (from + 1) (edge .sound);
-    relaxed = relaxed-words g ws from e (rw (edge .leads, edge .weighs, edge .graph .counted) shown);
+    relaxes = record {
+      update = update-none from (from + 1) (edge .sound);
+      relaxed = relaxed-words g ws from e (rw (edge .leads, edge .weighs, edge .graph .counted) shown);
+    };
+    stored = λ q. let z : _≡_ {A = ℕ} 0 1 = cc in absurd (omega arith);
   }
 
   -- Its cost is stored.
   pub edge-stored :
       (charge steps : ℕ) → charge ≡ weight + chargeAt ws to → steps ≡ suc (stepsAt ws to) → chargeAt ws to ≢ infinity
       → charge ≢ infinity → steps < nodes → cost charge steps ≺ costAt ws from
-      → Relaxes g from e ws (stored ws from (cost charge steps)) true
+      → EdgeDone g e from to weight ws (stored ws from (cost charge steps)) true
   edge-stored charge steps charged counted known finite few less =
       let graph = edge .graph in
       let range = edge-in-range in
@@ -67,10 +70,13 @@ module _ {g : Graph} {e : Edge} {nodes from to weight : ℕ} {ws : List ℕ} (ed
       let charged′ : charge ≡ e .weight + chargeAt ws (e .to) = rw (edge .leads, edge .weighs) charged in
       let counted′ : steps ≡ suc (stepsAt ws (e .to)) = rw (edge .leads) counted in
       record {
-        update =
-            update-stored from e (cost charge steps) charged′ counted′ (omega arith) (edge .sound) (omega arith)
-            (rw (edge .leads) (omega arith)) (edge .leaves) (rw (edge .leads) known) finite (omega arith) less;
-        relaxed = relaxed-stored g ws from (cost charge steps) (edge .sound) (omega arith) finite less e charged′ counted′;
+        relaxes = record {
+          update =
+              update-stored from e (cost charge steps) charged′ counted′ (omega arith) (edge .sound) (omega arith)
+              (rw (edge .leads) (omega arith)) (edge .leaves) (rw (edge .leads) known) finite (omega arith) less;
+          relaxed = relaxed-stored g ws from (cost charge steps) (edge .sound) (omega arith) finite less e charged′ counted′;
+        };
+        stored = λ q. stored-charge ws from (cost charge steps) (omega (arith, edge .sound .room)) ∙ charged;
       }
 
 module _ (nodes from to weight : ℕ) (ws : List ℕ) (ready : EdgeReady nodes from to weight ws) where

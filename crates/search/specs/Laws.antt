@@ -2,3 +2,6 @@
 pub mod Answers
 pub mod Chains
 pub mod Taking
+pub mod Standing
+pub mod Shares
+pub mod Goal

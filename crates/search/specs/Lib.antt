@@ -5,7 +5,9 @@ pub mod Places
 pub mod Rows
 pub mod Edges
 pub mod Regions
-pub mod Settle
+pub mod Classes
+pub mod Spread
+pub mod Near
 pub mod Seeding
 -- What a route cites of them.
 pub mod Laws

@@ -7,8 +7,8 @@ use lib.Dec.{leb}
 use lib.ListN.{length, drop, replicate}
 use Rattle.semantics.specs.Automaton.{Automaton}
 use Rattle.semantics.specs.Node.{nodeCount}
-use Rattle.semantics.specs.Distance.{distanceWords}
-use Rattle.semantics.specs.CornerGraph.{cornerGraph}
+use Rattle.semantics.specs.Near.{nearWords}
+use Rattle.semantics.specs.CornerGraph.{startNode, cornerGraph}
 pub use Rattle.regions.specs.Nodes.{mostNodes}
 use Rattle.search.specs.declared.Searched.{Searched}
 use Rattle.search.specs.declared.Searched.the-variants.{Nodes, Refused}
@@ -22,9 +22,9 @@ abbrev pub unlessRefused : Searched → List ℕ → List ℕ → List ℕ
 unlessRefused (Nodes n) new ws = new ++ drop (2 * n) ws
 unlessRefused (Refused n) new ws = ws
 
--- After a search for the goal l: the charge and the number of steps from every corner into the goal.
+-- After a search for the goal l: the least charge and number of steps from the start to every corner that is as near as the goal.
 unfoldable pub searched : Automaton → ℕ → List ℕ → List ℕ
-searched a l ws = unlessRefused (answered a (length ws)) (distanceWords (cornerGraph a l)) ws
+searched a l ws = unlessRefused (answered a (length ws)) (nearWords (cornerGraph a l) (startNode a)) ws
 
 -- After clearing: "the first 2E words are 0 and the rest are untouched".
 unfoldable pub cleared : Automaton → List ℕ → List ℕ

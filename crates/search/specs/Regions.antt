@@ -1,43 +1,62 @@
--- What the functions that sweep regions, cells and modes ask of the table, its arrays and the words, and what they do. The graph is that of
+-- What the functions that follow the edges of regions ask of the table, its arrays, the words and what is pending, and what they do. The graph is that of
 -- the table and a goal, of which the code is handed only what it needs.
 -- Assumes nothing.
 use mathlib.Core.Path.{_≡_}
-use mathlib.Core.Bool.{Bool}
+use mathlib.Core.Logic.{_≢_}
 use mathlib.Core.List.{List}
-use Prim.Native.Nat.{ℕ, suc, _+_, _*_, _≤_, _<_}
+use Prim.Native.Nat.{ℕ, suc, _+_, _*_, _/_, _≤_, _<_}
 use lib.ListN.{length, getD, take}
-use Rattle.semantics.specs.Automaton.{Automaton, timers, modeAt}
+use Rattle.semantics.specs.Automaton.{Automaton, modeAt}
 use Rattle.semantics.specs.Region.{delay}
 use Rattle.semantics.specs.Corner.{cornerCount, countFrom}
-use Rattle.semantics.specs.Path.{Edge, Graph, Leaves, Relaxed, table}
-use Rattle.semantics.specs.Node.{IsCell, cellCount, cellNumber, nodeCount}
+use Rattle.semantics.specs.Path.{Edge, Graph, Leaves, chargeAt}
+use Rattle.semantics.specs.Near.{turned}
+use Rattle.semantics.specs.Node.{cellCount, nodeCount}
 use Rattle.semantics.specs.Chain.{Place}
-use Rattle.semantics.specs.CornerGraph.{numberOf, cornerGraph}
+use Rattle.semantics.specs.CornerGraph.{numberOf, startNode, cornerGraph}
 use Rattle.semantics.specs.Answers.Places.{IsPlace}
+use Rattle.semantics.specs.Answers.Modes.{modeOfNode}
 use Rattle.semantics.specs.Paths.Sound.{Sound}
-use Rattle.semantics.specs.Paths.Update.{Update, Fresh}
-use Rattle.semantics.specs.Paths.Sweep.{Swept}
+use Rattle.semantics.specs.Paths.Ahead.{mostClasses, Done, Pass}
 use Rattle.reader.specs.declared.Table.{Table}
 use Rattle.reader.specs.Meaning.{automaton}
-use Rattle.reader.specs.Held.{fields, IsTable, pad}
+use Rattle.reader.specs.Held.{fields, IsTable}
 use Rattle.regions.specs.declared.Region.{Region}
-use Rattle.regions.specs.Held.{mostTimers, view, Valid}
+use Rattle.regions.specs.Held.{view, Valid}
 use Rattle.regions.specs.Nodes.{mostNodes}
+use Rattle.search.specs.declared.spread.Around.{Around}
 
--- The automaton that the table holds, and its graph for the goal l.
+-- The automaton that the table holds, its graph for the goal l, and the node where chains begin.
 abbrev pub automatonOf : Table → Automaton
 automatonOf t = automaton (fields t)
 
 abbrev pub graphOf : Table → ℕ → Graph
 graphOf t l = cornerGraph (automatonOf t) l
 
--- A search of the table for the goal l is on: its graph has so many nodes, and the words are sound.
+abbrev pub startOf : Table → ℕ
+startOf t = startNode (automatonOf t)
+
+-- A search of the table for the goal l is on: its graph has so many nodes, and the words are found forwards from the start.
 pub record Searching (t : Table) (l nodes : ℕ) (ceilings ws : List ℕ) : Type 0 where
   pub is-table : IsTable t
   pub counted : nodes ≡ nodeCount (automatonOf t)
   pub few : nodes ≤ mostNodes
   pub ceilings-are : ceilings ≡ t .ceilings
-  pub sound : Sound (graphOf t l) ws
+  pub sound : Sound (turned (graphOf t l) (startOf t)) ws
+
+-- How many nodes a mode has.
+abbrev pub share : Table → ℕ
+share t = cellCount (automatonOf t .ceilings) * cornerCount (t .timers) 1
+
+-- The nodes are in classes of `block` nodes: whole cells, so many classes to a mode, and few enough. There is a place for each and one for the bound.
+pub record Classes (t : Table) (block : ℕ) (pend : List ℕ) : Type 0 where
+  pub cells : ℕ
+  pub some : 1 ≤ cells
+  pub whole-cells : block ≡ cells * cornerCount (t .timers) 1
+  pub parts : ℕ
+  pub shared : parts * block ≡ share t
+  pub few : t .modes * parts ≤ mostClasses
+  pub room : length pend ≡ suc mostClasses
 
 -- The place of a struct in a mode.
 abbrev pub placeOf : ℕ → Region → Place
@@ -50,6 +69,24 @@ pub record RegionAt (t : Table) (mode from : ℕ) (region : Region) : Type 0 whe
   pub indexed : view region .prices ≡ countFrom 0 (suc (region .top))
   pub place : IsPlace (automatonOf t) (placeOf mode region)
   pub first : from ≡ numberOf (automatonOf t) (placeOf mode region) 0
+
+-- The region that the node is a corner of, in the mode of the node.
+pub record AroundAt (t : Table) (timers : ℕ) (ceilings : List ℕ) (node : ℕ) : Type 0 where
+  pub is-table : IsTable t
+  pub timers-are : timers ≡ t .timers
+  pub ceilings-are : ceilings ≡ t .ceilings
+  pub there : node < nodeCount (automatonOf t)
+
+pub record RegionAround (t : Table) (node : ℕ) (r : Around) : Type 0 where
+  pub at-region : RegionAt t (modeOfNode (automatonOf t) node) (r .from) (r .region)
+  pub above : r .from ≤ node
+  pub below : node ≤ r .from + r .region .top
+
+abbrev pub AroundReady : ℕ → List ℕ → ℕ → Type 0
+AroundReady timers ceilings node = (t : Table) × AroundAt t timers ceilings node
+
+abbrev pub IsAround : ℕ → List ℕ → ℕ → Around → Type 0
+IsAround timers ceilings node r = (t : Table) → AroundAt t timers ceilings node → RegionAround t node r
 
 -- The move e of the table is one from the mode.
 pub record Own (t : Table) (mode e : ℕ) : Type 0 where
@@ -66,120 +103,97 @@ pub record Lent (t : Table) (mode : ℕ) (own targets prices guards resets invar
   pub listed : (k : ℕ) → k < length own → Own t mode (getD own k 0)
   pub complete : (e : ℕ) → Own t mode e → (k : ℕ) × (k < length own) × (getD own k 0 ≡ e)
 
--- The moves from the corners of a region.
-pub record MovesAt (t : Table) (l mode nodes from : ℕ) (region : Region) (ceilings own targets prices guards resets invariants ws : List ℕ) : Type 0 where
+-- What was done for the region whose corners are the nodes from `from` on. For each of its edges with such a label nothing is left to do, if its
+-- node is charged at least low. Nodes from lo to hi may still be to come.
+pub record Spread
+    (t : Table) (l block low lo hi from : ℕ) (region : Region) (Label : ℕ → Type 0) (ws pend ws′ pend′ : List ℕ) : Type 0 where
+  pub pass : Pass (graphOf t l) (startOf t) block low lo hi ws pend ws′ pend′
+  pub edges :
+      (j : ℕ) → j ≤ region .top → (e : Edge) → Leaves (graphOf t l) (from + j) e → Label (e .label) → low ≤ chargeAt ws′ (from + j)
+      → Done (graphOf t l) (startOf t) block ws′ pend′ (from + j) e
+
+-- The end of the class that the node is in.
+abbrev pub classEnd : ℕ → ℕ → ℕ
+classEnd block node = node / block * block + block
+
+-- The moves from the corners of a region that is not in the goal.
+pub record MovesAt
+    (t : Table) (l mode nodes block from : ℕ) (region : Region) (ceilings own targets prices guards resets invariants ws pend : List ℕ) : Type 0 where
   pub searching : Searching t l nodes ceilings ws
+  pub classes : Classes t block pend
+  pub away : mode ≢ l
   pub at-region : RegionAt t mode from region
   pub lent : Lent t mode own targets prices guards resets invariants
 
-pub record MovesDone (t : Table) (l from : ℕ) (region : Region) (own ws ws′ : List ℕ) (changed : Bool) : Type 0 where
-  pub update : Update (graphOf t l) from (from + suc (region .top)) ws ws′ changed
-  pub edges :
-      (j : ℕ) → j ≤ region .top → (e : Edge) → Leaves (graphOf t l) (from + j) e → (k : ℕ) → k < length own → e .label ≡ getD own k 0
-      → Fresh (graphOf t l) from (from + suc (region .top)) ws′ changed (from + j) e
+abbrev pub MovesReady : ℕ → ℕ → ℕ → ℕ → Region → List ℕ → List ℕ → List ℕ → List ℕ → List ℕ → List ℕ → List ℕ → List ℕ → List ℕ → Type 0
+MovesReady nodes goal block from region ceilings own targets prices guards resets invariants ws pend =
+    (t : Table) × (mode : ℕ) × MovesAt t goal mode nodes block from region ceilings own targets prices guards resets invariants ws pend
 
-abbrev pub MovesReady : ℕ → ℕ → Region → List ℕ → List ℕ → List ℕ → List ℕ → List ℕ → List ℕ → List ℕ → List ℕ → Type 0
-MovesReady nodes from region ceilings own targets prices guards resets invariants ws =
-    (t : Table) × (l : ℕ) × (mode : ℕ) × MovesAt t l mode nodes from region ceilings own targets prices guards resets invariants ws
-
-abbrev pub MovesRelaxed : ℕ → ℕ → Region → List ℕ → List ℕ → List ℕ → List ℕ → List ℕ → List ℕ → List ℕ → List ℕ → List ℕ → Bool → Type 0
-MovesRelaxed nodes from region ceilings own targets prices guards resets invariants ws ws′ changed =
-    (t : Table) (l mode : ℕ) → MovesAt t l mode nodes from region ceilings own targets prices guards resets invariants ws
-    → MovesDone t l from region own ws ws′ changed
+-- Every node that they lower is noted, or is the goal's.
+abbrev pub MovesSpread :
+    ℕ → ℕ → ℕ → ℕ → ℕ → Region → List ℕ → List ℕ → List ℕ → List ℕ → List ℕ → List ℕ → List ℕ → List ℕ → List ℕ → List ℕ → List ℕ → Type 0
+MovesSpread nodes goal block low from region ceilings own targets prices guards resets invariants ws pend ws′ pend′ =
+    (t : Table) (mode : ℕ) → MovesAt t goal mode nodes block from region ceilings own targets prices guards resets invariants ws pend
+    → Spread t goal block low 0 0 from region (λ k. k < 64) ws pend ws′ pend′
 
 -- Delay and linger from the corners of a region.
-pub record WaitsAt (t : Table) (l nodes from mode : ℕ) (region : Region) (ceilings : List ℕ) (rate : ℕ) (invariants ws : List ℕ) : Type 0 where
+pub record WaitsAt
+    (t : Table) (l nodes block from mode : ℕ) (region : Region) (ceilings : List ℕ) (rate : ℕ) (invariants ws pend : List ℕ) : Type 0 where
   pub searching : Searching t l nodes ceilings ws
+  pub classes : Classes t block pend
+  pub away : mode ≢ l
   pub at-region : RegionAt t mode from region
   pub rate-is : rate ≡ modeAt (automatonOf t) mode .rate
   pub invariants-are : invariants ≡ t .invariants
 
-pub record WaitsDone (t : Table) (l from : ℕ) (region : Region) (ws ws′ : List ℕ) (changed : Bool) : Type 0 where
-  pub update : Update (graphOf t l) from (from + suc (region .top)) ws ws′ changed
-  pub edges :
-      (j : ℕ) → j ≤ region .top → (e : Edge) → Leaves (graphOf t l) (from + j) e → 64 ≤ e .label
-      → Relaxed (graphOf t l) (table ws′) (from + j) e
+abbrev pub WaitsReady : ℕ → ℕ → ℕ → ℕ → Region → List ℕ → ℕ → List ℕ → List ℕ → List ℕ → Type 0
+WaitsReady nodes block from mode region ceilings rate invariants ws pend =
+    (t : Table) × (l : ℕ) × WaitsAt t l nodes block from mode region ceilings rate invariants ws pend
 
-abbrev pub WaitsReady : ℕ → ℕ → ℕ → Region → List ℕ → ℕ → List ℕ → List ℕ → Type 0
-WaitsReady nodes from mode region ceilings rate invariants ws =
-    (t : Table) × (l : ℕ) × WaitsAt t l nodes from mode region ceilings rate invariants ws
-
-abbrev pub WaitsRelaxed : ℕ → ℕ → ℕ → Region → List ℕ → ℕ → List ℕ → List ℕ → List ℕ → Bool → Type 0
-WaitsRelaxed nodes from mode region ceilings rate invariants ws ws′ changed =
-    (t : Table) (l : ℕ) → WaitsAt t l nodes from mode region ceilings rate invariants ws → WaitsDone t l from region ws ws′ changed
+-- What they lower is the last corner, or a node above it of the same class, or noted.
+abbrev pub WaitsSpread : ℕ → ℕ → ℕ → ℕ → ℕ → Region → List ℕ → ℕ → List ℕ → List ℕ → List ℕ → List ℕ → List ℕ → Type 0
+WaitsSpread nodes block low from mode region ceilings rate invariants ws pend ws′ pend′ =
+    (t : Table) (l : ℕ) → WaitsAt t l nodes block from mode region ceilings rate invariants ws pend
+    → Spread t l block low (from + region .top) (classEnd block from) from region (λ k. 64 ≤ k) ws pend ws′ pend′
 
 -- Delay alone, where `delayed` holds the region delayed at the rate 0.
 pub record DelaysAt
-    (t : Table) (l : ℕ) (region : Region) (nodes from mode top : ℕ) (delayed : Region) (ceilings : List ℕ) (rate : ℕ) (invariants ws : List ℕ) : Type 0 where
-  pub waits : WaitsAt t l nodes from mode region ceilings rate invariants ws
+    (t : Table) (l : ℕ) (region : Region) (nodes block from mode top : ℕ) (delayed : Region) (ceilings : List ℕ) (rate : ℕ)
+    (invariants ws pend : List ℕ) : Type 0 where
+  pub waits : WaitsAt t l nodes block from mode region ceilings rate invariants ws pend
   pub top-is : top ≡ region .top
   pub held : Valid delayed
   pub timers-are : delayed .timers ≡ t .timers
   pub is-delayed : view delayed ≡ delay 0 (view region)
 
-pub record DelaysDone (t : Table) (l from : ℕ) (region : Region) (ws ws′ : List ℕ) (changed : Bool) : Type 0 where
-  pub update : Update (graphOf t l) from (from + suc (region .top)) ws ws′ changed
-  pub edges :
-      (j : ℕ) → j ≤ region .top → (e : Edge) → Leaves (graphOf t l) (from + j) e → e .label ≡ 64
-      → Relaxed (graphOf t l) (table ws′) (from + j) e
+abbrev pub DelaysReady : ℕ → ℕ → ℕ → ℕ → ℕ → Region → List ℕ → ℕ → List ℕ → List ℕ → List ℕ → Type 0
+DelaysReady nodes block from mode top delayed ceilings rate invariants ws pend =
+    (t : Table) × (l : ℕ) × (region : Region) × DelaysAt t l region nodes block from mode top delayed ceilings rate invariants ws pend
 
-abbrev pub DelaysReady : ℕ → ℕ → ℕ → ℕ → Region → List ℕ → ℕ → List ℕ → List ℕ → Type 0
-DelaysReady nodes from mode top delayed ceilings rate invariants ws =
-    (t : Table) × (l : ℕ) × (region : Region) × DelaysAt t l region nodes from mode top delayed ceilings rate invariants ws
+abbrev pub DelaysSpread : ℕ → ℕ → ℕ → ℕ → ℕ → ℕ → Region → List ℕ → ℕ → List ℕ → List ℕ → List ℕ → List ℕ → List ℕ → Type 0
+DelaysSpread nodes block low from mode top delayed ceilings rate invariants ws pend ws′ pend′ =
+    (t : Table) (l : ℕ) (region : Region) → DelaysAt t l region nodes block from mode top delayed ceilings rate invariants ws pend
+    → Spread t l block low (suc (from + region .top)) (classEnd block from) from region (λ k. k ≡ 64) ws pend ws′ pend′
 
-abbrev pub DelaysRelaxed : ℕ → ℕ → ℕ → ℕ → Region → List ℕ → ℕ → List ℕ → List ℕ → List ℕ → Bool → Type 0
-DelaysRelaxed nodes from mode top delayed ceilings rate invariants ws ws′ changed =
-    (t : Table) (l : ℕ) (region : Region) → DelaysAt t l region nodes from mode top delayed ceilings rate invariants ws
-    → DelaysDone t l from region ws ws′ changed
-
--- What a sweep is handed of the table, for one mode.
+-- What is handed of the table for one mode, which is not the goal.
 pub record Handed
-    (t : Table) (l nodes mode : ℕ) (ceilings : List ℕ) (rate : ℕ) (own targets prices guards resets invariants ws : List ℕ) : Type 0 where
+    (t : Table) (l nodes block mode : ℕ) (ceilings : List ℕ) (rate : ℕ) (own targets prices guards resets invariants ws pend : List ℕ) : Type 0 where
   pub searching : Searching t l nodes ceilings ws
+  pub classes : Classes t block pend
+  pub away : mode ≢ l
   pub rate-is : rate ≡ modeAt (automatonOf t) mode .rate
   pub lent : Lent t mode own targets prices guards resets invariants
 
 -- A region.
-abbrev pub RegionReady : ℕ → ℕ → ℕ → Region → List ℕ → ℕ → List ℕ → List ℕ → List ℕ → List ℕ → List ℕ → List ℕ → List ℕ → Type 0
-RegionReady nodes from mode region ceilings rate own targets prices guards resets invariants ws =
-    (t : Table) × (l : ℕ) × RegionAt t mode from region × Handed t l nodes mode ceilings rate own targets prices guards resets invariants ws
+abbrev pub RegionReady :
+    ℕ → ℕ → ℕ → ℕ → ℕ → Region → List ℕ → ℕ → List ℕ → List ℕ → List ℕ → List ℕ → List ℕ → List ℕ → List ℕ → List ℕ → Type 0
+RegionReady nodes goal block from mode region ceilings rate own targets prices guards resets invariants ws pend =
+    (t : Table) × RegionAt t mode from region
+    × Handed t goal nodes block mode ceilings rate own targets prices guards resets invariants ws pend
 
-abbrev pub RegionSwept : ℕ → ℕ → ℕ → Region → List ℕ → ℕ → List ℕ → List ℕ → List ℕ → List ℕ → List ℕ → List ℕ → List ℕ → List ℕ → Bool → Type 0
-RegionSwept nodes from mode region ceilings rate own targets prices guards resets invariants ws ws′ changed =
-    (t : Table) (l : ℕ) → RegionAt t mode from region → Handed t l nodes mode ceilings rate own targets prices guards resets invariants ws
-    → Swept (graphOf t l) 64 from (from + suc (region .top)) ws ws′ changed
-
--- The cell with these whole parts in the mode: its nodes begin at `base`.
-pub record CellAt (t : Table) (base mode timers : ℕ) (whole : List ℕ) : Type 0 where
-  pub in-modes : mode < t .modes
-  pub timers-are : timers ≡ t .timers
-  pub padded : whole ≡ pad mostTimers (take timers whole)
-  pub cell : IsCell (automatonOf t .ceilings) (take timers whole)
-  pub first : base ≡ (mode * cellCount (automatonOf t .ceilings) + cellNumber (automatonOf t .ceilings) (take timers whole)) * cornerCount timers 1
-
-abbrev pub CellReady : ℕ → ℕ → ℕ → ℕ → List ℕ → List ℕ → ℕ → List ℕ → List ℕ → List ℕ → List ℕ → List ℕ → List ℕ → List ℕ → Type 0
-CellReady nodes base mode timers whole ceilings rate own targets prices guards resets invariants ws =
-    (t : Table) × (l : ℕ) × CellAt t base mode timers whole × Handed t l nodes mode ceilings rate own targets prices guards resets invariants ws
-
-abbrev pub CellSwept : ℕ → ℕ → ℕ → ℕ → List ℕ → List ℕ → ℕ → List ℕ → List ℕ → List ℕ → List ℕ → List ℕ → List ℕ → List ℕ → List ℕ → Bool → Type 0
-CellSwept nodes base mode timers whole ceilings rate own targets prices guards resets invariants ws ws′ changed =
-    (t : Table) (l : ℕ) → CellAt t base mode timers whole → Handed t l nodes mode ceilings rate own targets prices guards resets invariants ws
-    → Swept (graphOf t l) 64 base (base + cornerCount timers 1) ws ws′ changed
-
--- How many nodes a mode has.
-abbrev pub share : Table → ℕ
-share t = cellCount (automatonOf t .ceilings) * cornerCount (t .timers) 1
-
--- A mode.
-pub record ModeAt (t : Table) (mode timers : ℕ) : Type 0 where
-  pub in-modes : mode < t .modes
-  pub timers-are : timers ≡ t .timers
-
-abbrev pub ModeReady : ℕ → ℕ → ℕ → List ℕ → ℕ → List ℕ → List ℕ → List ℕ → List ℕ → List ℕ → List ℕ → List ℕ → Type 0
-ModeReady nodes mode timers ceilings rate own targets prices guards resets invariants ws =
-    (t : Table) × (l : ℕ) × ModeAt t mode timers × Handed t l nodes mode ceilings rate own targets prices guards resets invariants ws
-
-abbrev pub ModeSwept : ℕ → ℕ → ℕ → List ℕ → ℕ → List ℕ → List ℕ → List ℕ → List ℕ → List ℕ → List ℕ → List ℕ → List ℕ → Bool → Type 0
-ModeSwept nodes mode timers ceilings rate own targets prices guards resets invariants ws ws′ changed =
-    (t : Table) (l : ℕ) → ModeAt t mode timers → Handed t l nodes mode ceilings rate own targets prices guards resets invariants ws
-    → Swept (graphOf t l) 64 (mode * share t) (mode * share t + share t) ws ws′ changed
+abbrev pub RegionSpread :
+    ℕ → ℕ → ℕ → ℕ → ℕ → ℕ → Region → List ℕ → ℕ → List ℕ → List ℕ → List ℕ → List ℕ → List ℕ → List ℕ → List ℕ → List ℕ → List ℕ → List ℕ → Type 0
+RegionSpread nodes goal block low from mode region ceilings rate own targets prices guards resets invariants ws pend ws′ pend′ =
+    (t : Table) → RegionAt t mode from region
+    → Handed t goal nodes block mode ceilings rate own targets prices guards resets invariants ws pend
+    → Spread t goal block low (from + region .top) (classEnd block from) from region (λ k. Unit {0}) ws pend ws′ pend′

@@ -2,7 +2,8 @@
 ghost use Prim.Native.Nat.{_<_};
 ghost use mathlib.Core.Path.{_≡_};
 ghost use lib.ListN.{getD};
-ghost use Rattle.search.specs.Edges.{LastAtMost, MoveReady, MoveRelaxed, DelayReady, DelayRelaxed};
+ghost use Rattle.search.specs.Edges.{LastAtMost, MoveReady, MoveSpread, DelayReady, DelaySpread};
+use crate::INFINITY;
 use crate::words;
 use regions::Region;
 
@@ -19,8 +20,8 @@ fn last_at_most(prices: [u32; Region::MOST_CORNERS], last: usize, bound: usize) 
 }
 
 // A move: corner j goes to the last corner whose price is at most j, where the region was given its corners' indices as prices before the
-// resets, which keep the smaller of two.
-pub fn relax_move(
+// resets, which keep the smaller of two. The least charge that was stored, or INFINITY.
+pub fn spread_move(
     words: &mut [u32],
     nodes: usize,
     from: usize,
@@ -29,23 +30,25 @@ pub fn relax_move(
     last: usize,
     to: usize,
     price: u32,
-) -> bool
+    low: u32,
+) -> u32
     requires { ⌜ MoveReady nodes from top prices last to price (now words) ⌝ }
-    ensures { λ r. ⌜ MoveRelaxed nodes from top prices last to price (now (words .entry)) (now (words .exit)) r ⌝ }
+    ensures { λ r. ⌜ MoveSpread nodes from top prices last to price low (now (words .entry)) (now (words .exit)) r ⌝ }
 {
-    let mut changed = false;
+    let mut least = INFINITY;
     for j in 0..top + 1 {
         let i = last_at_most(prices, last, j);
-        if words::relax_edge(words, nodes, from + j, to + i, price) {
-            changed = true;
+        let stored = words::offer(words, nodes, from + j, to + i, price, low);
+        if stored < least {
+            least = stored;
         }
     }
-    changed
+    least
 }
 
 // A delay: corner i of the delayed region comes from the corner that is its price, where the region was given its corners' indices as prices
-// and delayed at the rate 0. Only a corner that was added at the end is charged the rate.
-pub fn relax_delay(
+// and delayed at the rate 0. Only a corner that was added at the end is charged the rate. The least charge that was stored, or INFINITY.
+pub fn spread_delay(
     words: &mut [u32],
     nodes: usize,
     from: usize,
@@ -54,17 +57,19 @@ pub fn relax_delay(
     last: usize,
     to: usize,
     rate: u32,
-) -> bool
+    low: u32,
+) -> u32
     requires { ⌜ DelayReady nodes from top prices last to rate (now words) ⌝ }
-    ensures { λ r. ⌜ DelayRelaxed nodes from top prices last to rate (now (words .entry)) (now (words .exit)) r ⌝ }
+    ensures { λ r. ⌜ DelaySpread nodes from top prices last to rate low (now (words .entry)) (now (words .exit)) r ⌝ }
 {
-    let mut changed = false;
+    let mut least = INFINITY;
     for i in 0..last + 1 {
         let j = prices[i] as usize;
         let weight = if top < i { rate } else { 0 };
-        if words::relax_edge(words, nodes, from + j, to + i, weight) {
-            changed = true;
+        let stored = words::offer(words, nodes, from + j, to + i, weight, low);
+        if stored < least {
+            least = stored;
         }
     }
-    changed
+    least
 }

@@ -6,16 +6,18 @@ ghost use Rattle.search.specs.Regions.{automatonOf};
 ghost use Rattle.search.specs.Outcome.{answered, searched, cleared};
 ghost use Rattle.search.specs.Seeding.{SeedRoom, Seeds};
 
+mod classes;
 mod conditions;
 mod corners;
 mod moves;
+pub mod near;
 pub mod places;
-mod settle;
-mod sweep;
+mod spread;
 mod waits;
 mod words;
 
 use reader::Table;
+use regions::Region;
 use regions::nodes;
 use regions::nodes::Nodes;
 
@@ -50,7 +52,7 @@ fn room(table: Table, lent: usize) -> Searched
     }
 }
 
-// Finds the charge and the number of steps from every corner into the goal mode.
+// Finds the least charge and number of steps from the start to every corner that is as near as the goal.
 pub fn search(table: Table, goal: usize, words: &mut [u32]) -> Searched
     requires { ⌜ IsTable table ⌝ }
     ensures answer { λ r. ⌜ r ≡ answered (automatonOf table) (length (now (words .entry))) ⌝ }
@@ -61,15 +63,19 @@ pub fn search(table: Table, goal: usize, words: &mut [u32]) -> Searched
         return answer;
     };
     let modes = table.modes;
-    seed(words, n, goal, modes);
+    let timers = table.timers;
     let ceilings = table.ceilings;
-    settle::settle(
+    let region = Region::start(timers);
+    let start = nodes::node_of(0, region, 0, ceilings);
+    seed(words, n, start);
+    spread::spread(
         words,
         n,
+        start,
         goal,
         modes,
         table.moves,
-        table.timers,
+        timers,
         ceilings,
         &table.rates,
         &table.invariants,
@@ -79,6 +85,8 @@ pub fn search(table: Table, goal: usize, words: &mut [u32]) -> Searched
         &table.guards,
         &table.resets,
     );
+    let best = near::best(words, n, goal, modes);
+    words::keep_near(words, n, best.charge, best.steps);
     answer
 }
 
@@ -94,17 +102,13 @@ pub fn clear(table: Table, words: &mut [u32])
     }
 }
 
-// The nodes of the goal have cost 0, and no other node is reached.
-fn seed(words: &mut [u32], nodes: usize, goal: usize, modes: usize)
-    requires { ⌜ SeedRoom nodes modes (now words) ⌝ }
-    ensures { λ _. ⌜ Seeds nodes goal modes (now (words .entry)) (now (words .exit)) ⌝ }
+// The start has cost 0, and no other node is reached.
+fn seed(words: &mut [u32], nodes: usize, start: usize)
+    requires { ⌜ SeedRoom nodes start (now words) ⌝ }
+    ensures { λ _. ⌜ Seeds nodes start (now (words .entry)) (now (words .exit)) ⌝ }
 {
     let end = 2 * nodes;
     words::fill(&mut words[..end], INFINITY);
-    if goal < modes {
-        let share = 2 * (nodes / modes);
-        let first = goal * share;
-        let last = first + share;
-        words::fill(&mut words[first..last], 0);
-    }
+    words[2 * start] = 0;
+    words[2 * start + 1] = 0;
 }

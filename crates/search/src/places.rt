@@ -1,13 +1,9 @@
-// Places of chains by value: what a route needs of regions, in terms of chains.
+// Places of chains by value: what a route needs of regions, in terms of chains. The arrays of the table are lent.
 ghost use mathlib.Core.Path.{_≡_};
-ghost use Prim.Native.Nat.{_*_, _≤_};
-ghost use lib.ListN.{length};
-ghost use Rattle.semantics.specs.Path.{cost};
-ghost use Rattle.semantics.specs.Node.{nodeCount};
-ghost use Rattle.semantics.specs.Chain.{begin, step, moveStep, delayStep, lingerStep};
+ghost use Rattle.semantics.specs.Chain.{begin};
 ghost use Rattle.reader.specs.Held.{IsTable};
 ghost use Rattle.search.specs.Regions.{automatonOf};
-ghost use Rattle.search.specs.Places.{packPlace, viewPlace, packStep, costOf, completesWith, completes, mayTake, PlaceAt, StepRoom, CornerThere};
+ghost use Rattle.search.specs.Places.{packPlace, NextReady, IsNext, StepReady, IsStep, MoveStepReady, IsMoveStep, DelayStepReady, IsDelayStep, LingerStepReady, IsLingerStep, WordsReady, IsStanding, IsLeft};
 use crate::INFINITY;
 use crate::conditions;
 use reader::Table;
@@ -26,27 +22,6 @@ pub struct Stepped {
     pub place: Place,
 }
 
-// A charge and a number of steps.
-pub struct Cost {
-    pub charge: u32,
-    pub steps: u32,
-}
-
-// Whether the step of the byte may be allowed in the mode, by the sources of the moves alone.
-pub fn may_take(sources: &[u8], moves: usize, mode: usize, byte: u8) -> bool
-    requires { ⌜ moves ≤ length (now sources) ⌝ }
-    ensures { λ r. ⌜ r ≡ mayTake (now (sources .entry)) moves mode byte ⌝ }
-{
-    if 64 <= byte {
-        return true;
-    }
-    let number = byte as usize;
-    if moves <= number {
-        return false;
-    }
-    sources[number] as usize == mode
-}
-
 impl Place {
     // "A chain begins in mode 0 with the start region".
     pub fn start(table: Table) -> Place
@@ -59,19 +34,62 @@ impl Place {
         }
     }
 
+    // The first byte from `byte` on whose step may be allowed, by the sources and the conditions of the moves.
+    pub fn next_step(self, byte: u8, moves: usize, sources: &[u8], guards: &[u8]) -> u8
+        requires { ⌜ NextReady self moves (now sources) (now guards) ⌝ }
+        ensures { λ r. ⌜ IsNext self byte moves (now (sources .entry)) (now (guards .entry)) r ⌝ }
+    {
+        let region = self.region;
+        for number in byte as usize..moves {
+            if sources[number] as usize == self.mode {
+                if conditions::hold_all(region, guards, number) {
+                    return number as u8;
+                }
+            }
+        }
+        if byte < 64 { 64 } else { byte }
+    }
+
     // "A step is one byte: 0 to 63 the move of that number, 64 delay, 65 linger."
-    pub fn step(self, table: Table, byte: u8) -> Stepped
-        requires { ⌜ IsTable table × PlaceAt table self × StepRoom self ⌝ }
-        ensures { λ r. ⌜ r ≡ packStep self (step (automatonOf table) byte (viewPlace self)) ⌝ }
+    pub fn step(
+        self,
+        byte: u8,
+        moves: usize,
+        ceilings: [u8; Region::MOST_TIMERS],
+        rates: &[u16],
+        invariants: &[u8],
+        sources: &[u8],
+        targets: &[u8],
+        prices: &[u16],
+        guards: &[u8],
+        resets: &[u8],
+    ) -> Stepped
+        requires { ⌜
+            StepReady self moves ceilings (now rates) (now invariants) (now sources) (now targets) (now prices) (now guards) (now resets)
+            ⌝ }
+        ensures { λ r. ⌜
+            IsStep self byte moves ceilings (now (rates .entry)) (now (invariants .entry)) (now (sources .entry)) (now (targets .entry))
+            (now (prices .entry)) (now (guards .entry)) (now (resets .entry)) r
+            ⌝ }
     {
         if byte < 64 {
-            return self.make_move(table, byte as usize);
+            let number = byte as usize;
+            return self.make_move(
+                number,
+                moves,
+                invariants,
+                sources,
+                targets,
+                prices,
+                guards,
+                resets,
+            );
         }
         if byte == 64 {
-            return self.delay(table);
+            return self.delay(ceilings, rates, invariants);
         }
         if byte == 65 {
-            return self.linger(table);
+            return self.linger(rates);
         }
         Stepped {
             allowed: false,
@@ -80,32 +98,43 @@ impl Place {
     }
 
     // "A move's step tests its conditions, resets, charges, and tests the target's conditions."
-    fn make_move(self, table: Table, number: usize) -> Stepped
-        requires { ⌜ IsTable table × PlaceAt table self × StepRoom self ⌝ }
-        ensures { λ r. ⌜ r ≡ packStep self (moveStep (automatonOf table) number (viewPlace self)) ⌝ }
+    fn make_move(
+        self,
+        number: usize,
+        moves: usize,
+        invariants: &[u8],
+        sources: &[u8],
+        targets: &[u8],
+        prices: &[u16],
+        guards: &[u8],
+        resets: &[u8],
+    ) -> Stepped
+        requires { ⌜
+            MoveStepReady self moves (now invariants) (now sources) (now targets) (now prices) (now guards) (now resets)
+            ⌝ }
+        ensures { λ r. ⌜
+            IsMoveStep self number moves (now (invariants .entry)) (now (sources .entry)) (now (targets .entry)) (now (prices .entry))
+            (now (guards .entry)) (now (resets .entry)) r
+            ⌝ }
     {
         let unmoved = Stepped {
             allowed: false,
             place: self,
         };
-        if table.moves <= number {
+        if moves <= number {
             return unmoved;
         }
-        let sources = table.sources;
         if sources[number] as usize != self.mode {
             return unmoved;
         }
         let region = self.region;
-        if !conditions::hold_all(region, &table.guards, number) {
+        if !conditions::hold_all(region, guards, number) {
             return unmoved;
         }
-        let resets = table.resets;
-        let prices = table.prices;
         let cleared = region.reset_all(resets[number]);
         let moved = cleared.charge(prices[number] as u32);
-        let targets = table.targets;
         let target = targets[number] as usize;
-        if !conditions::hold_all(moved, &table.invariants, target) {
+        if !conditions::hold_all(moved, invariants, target) {
             return unmoved;
         }
         Stepped {
@@ -118,16 +147,14 @@ impl Place {
     }
 
     // Delay: "Allowed if the new region meets the mode's conditions and every ceiling."
-    fn delay(self, table: Table) -> Stepped
-        requires { ⌜ IsTable table × PlaceAt table self × StepRoom self ⌝ }
-        ensures { λ r. ⌜ r ≡ packStep self (delayStep (automatonOf table) (viewPlace self)) ⌝ }
+    fn delay(self, ceilings: [u8; Region::MOST_TIMERS], rates: &[u16], invariants: &[u8]) -> Stepped
+        requires { ⌜ DelayStepReady self ceilings (now rates) (now invariants) ⌝ }
+        ensures { λ r. ⌜ IsDelayStep self ceilings (now (rates .entry)) (now (invariants .entry)) r ⌝ }
     {
         let mode = self.mode;
-        let rates = table.rates;
         let region = self.region;
         let delayed = region.delay(rates[mode] as u32);
-        let ceilings = table.ceilings;
-        if !conditions::hold_all(delayed, &table.invariants, mode) {
+        if !conditions::hold_all(delayed, invariants, mode) {
             return Stepped {
                 allowed: false,
                 place: self,
@@ -149,12 +176,11 @@ impl Place {
     }
 
     // "linger is always allowed".
-    fn linger(self, table: Table) -> Stepped
-        requires { ⌜ IsTable table × PlaceAt table self × StepRoom self ⌝ }
-        ensures { λ r. ⌜ r ≡ packStep self (lingerStep (automatonOf table) (viewPlace self)) ⌝ }
+    fn linger(self, rates: &[u16]) -> Stepped
+        requires { ⌜ LingerStepReady self (now rates) ⌝ }
+        ensures { λ r. ⌜ IsLingerStep self (now (rates .entry)) r ⌝ }
     {
         let mode = self.mode;
-        let rates = table.rates;
         let region = self.region;
         let lingered = region.linger(rates[mode] as u32);
         Stepped {
@@ -166,53 +192,42 @@ impl Place {
         }
     }
 
-    // What the words say of a corner of the place: the charge and the steps from there into the goal.
-    pub fn cost(self, table: Table, words: &[u32], corner: usize) -> Cost
-        requires { ⌜ IsTable table × PlaceAt table self × CornerThere self corner × (2 * nodeCount (automatonOf table) ≤ length (now words)) ⌝ }
-        ensures { λ r. ⌜ r ≡ costOf (automatonOf table) (viewPlace self) (now (words .entry)) corner ⌝ }
-    {
-        let ceilings = table.ceilings;
-        let region = self.region;
-        let node = nodes::node_of(self.mode, region, corner, ceilings);
-        Cost {
-            charge: words[2 * node],
-            steps: words[2 * node + 1],
-        }
-    }
-
-    // Whether the place lies on a best chain: at some corner the price and what the words say of the corner come to this charge, with so many
-    // steps left.
-    pub fn completes(self, table: Table, words: &[u32], charge: u32, steps: u32) -> bool
-        requires { ⌜ IsTable table × PlaceAt table self × (2 * nodeCount (automatonOf table) ≤ length (now words)) ⌝ }
-        ensures { λ r. ⌜ r ≡ completes (automatonOf table) (now (words .entry)) (viewPlace self) (cost charge steps) ⌝ }
+    // Whether the words say of some corner that it costs its price and so many steps.
+    pub fn stands(self, ceilings: [u8; Region::MOST_TIMERS], words: &[u32], steps: u32) -> bool
+        requires { ⌜ WordsReady self ceilings (now words) ⌝ }
+        ensures { λ r. ⌜ IsStanding self ceilings (now (words .entry)) steps r ⌝ }
     {
         let region = self.region;
         let prices = region.prices;
+        let first = nodes::node_of(self.mode, region, 0, ceilings);
         let last = region.top as usize;
         for corner in 0..last + 1 {
-            let c = self.cost(table, words, corner);
-            if c.completes_with(prices[corner], charge, steps) {
-                return true;
+            let node = first + corner;
+            if words[2 * node] == prices[corner] {
+                if words[2 * node + 1] == steps {
+                    return true;
+                }
             }
         }
         false
     }
-}
 
-impl Cost {
-    // Whether the node is reached, and a price before it and its cost come to this charge and this number of steps.
-    fn completes_with(self, price: u32, charge: u32, steps: u32) -> bool
-        ensures { λ r. ⌜ r ≡ completesWith price (self .charge) (self .steps) (cost charge steps) ⌝ }
+    // Those corners become unreached.
+    pub fn leave(self, ceilings: [u8; Region::MOST_TIMERS], words: &mut [u32], steps: u32)
+        requires { ⌜ WordsReady self ceilings (now words) ⌝ }
+        ensures { λ _. ⌜ IsLeft self ceilings (now (words .entry)) steps (now (words .exit)) ⌝ }
     {
-        if self.charge == INFINITY {
-            return false;
+        let region = self.region;
+        let prices = region.prices;
+        let first = nodes::node_of(self.mode, region, 0, ceilings);
+        let top = region.top as usize;
+        for corner in 0..top + 1 {
+            let node = first + corner;
+            if words[2 * node] == prices[corner] {
+                if words[2 * node + 1] == steps {
+                    words[2 * node] = INFINITY;
+                }
+            }
         }
-        if charge < price {
-            return false;
-        }
-        if charge - price != self.charge {
-            return false;
-        }
-        self.steps == steps
     }
 }

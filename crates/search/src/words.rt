@@ -1,7 +1,8 @@
 // The words of a search: the charge of node v stands at 2v, and its steps at 2v + 1.
 ghost use mathlib.Core.Path.{_≡_};
 ghost use lib.ListN.{length, replicate};
-ghost use Rattle.search.specs.Edges.{EdgeReady, EdgeRelaxed};
+ghost use Rattle.search.specs.Edges.{EdgeReady, EdgeRelaxed, OfferReady, OfferMade};
+ghost use Rattle.search.specs.Near.{NearRoom, KeptNear};
 use crate::INFINITY;
 
 // Every word becomes x.
@@ -43,4 +44,34 @@ pub fn relax_edge(words: &mut [u32], nodes: usize, from: usize, to: usize, weigh
     words[2 * from] = charge;
     words[2 * from + 1] = steps;
     true
+}
+
+// Offers the node `to` what the edge from the node `from` costs, if that node is charged at least `low`. The charge that was stored, or INFINITY.
+pub fn offer(words: &mut [u32], nodes: usize, from: usize, to: usize, weight: u32, low: u32) -> u32
+    requires { ⌜ OfferReady nodes from to weight (now words) ⌝ }
+    ensures { λ r. ⌜ OfferMade nodes from to weight low (now (words .entry)) (now (words .exit)) r ⌝ }
+{
+    if words[2 * from] < low {
+        return INFINITY;
+    }
+    if relax_edge(words, nodes, to, from, weight) {
+        return words[2 * to];
+    }
+    INFINITY
+}
+
+// Nodes that are charged more, or have more steps, become unreached.
+pub fn keep_near(words: &mut [u32], nodes: usize, charge: u32, steps: u32)
+    requires { ⌜ NearRoom nodes (now words) ⌝ }
+    ensures { λ _. ⌜ KeptNear nodes charge steps (now (words .entry)) (now (words .exit)) ⌝ }
+{
+    for v in 0..nodes {
+        if charge < words[2 * v] {
+            words[2 * v] = INFINITY;
+            words[2 * v + 1] = INFINITY;
+        } else if steps < words[2 * v + 1] {
+            words[2 * v] = INFINITY;
+            words[2 * v + 1] = INFINITY;
+        }
+    }
 }

@@ -17,6 +17,9 @@ pub mod Best
 pub mod Demand
 -- The answer by a table of least costs.
 pub mod Table
-pub mod Reading
+-- The route by the words of a search forwards.
+pub mod Forward
+pub mod Onward
+pub mod Walk
 -- The answer that antt computes.
 pub mod Computed

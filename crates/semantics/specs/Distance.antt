@@ -1,10 +1,9 @@
--- The least cost from a node into the targets, as a function: what the words of a search are to hold.
+-- The least cost from a node into the targets, as a function.
 -- Assumes nothing.
 use mathlib.Core.Bool.{Bool, true, false, cond}
 use mathlib.Core.List.{List, [], _∷_}
 use Prim.Native.Nat.{ℕ, zero, suc, pred}
 use lib.Dec.{ltb, eqb}
-use Rattle.semantics.specs.Corner.{countFrom, flatMap}
 use Rattle.semantics.specs.Path.{Edge, Graph, Cost, cost, Entry, unreached, reached, along, infinity}
 
 -- Cost b is less than cost a: by charge, then by steps.
@@ -44,7 +43,3 @@ distance g = upTo g (pred (g .nodes))
 abbrev pub entryWords : Entry → List ℕ
 entryWords unreached = infinity ∷ infinity ∷ []
 entryWords (reached c) = c .charge ∷ c .steps ∷ []
-
--- The words of a search: those of the distance of every node.
-unfoldable pub distanceWords : Graph → List ℕ
-distanceWords g = flatMap (λ v. entryWords (distance g v)) (countFrom 0 (g .nodes))

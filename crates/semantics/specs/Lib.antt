@@ -7,8 +7,7 @@ pub mod Point
 pub mod Corner
 pub mod Path
 pub mod Distance
--- No contract cites this one yet.
-pub mod Best
+pub mod Near
 pub mod Node
 pub mod Chain
 pub mod CornerPath

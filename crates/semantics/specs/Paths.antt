@@ -11,7 +11,6 @@ pub mod Better
 pub mod System
 pub mod Route
 pub mod Start
-pub mod Prefix
 pub mod FirstSome
 pub mod Greedy
 pub mod Plain
@@ -21,18 +20,13 @@ pub mod Words
 pub mod Sum
 pub mod Sound
 pub mod Update
-pub mod Sweep
 pub mod Seed
-pub mod Settle
 -- Found forwards from a node, and the nodes on best paths from it.
 pub mod Turned
 pub mod Spread
 pub mod Ahead
-pub mod Traced
-pub mod Levels
-pub mod Mark
-pub mod Kept
-pub mod Onto
+pub mod Passes
+pub mod Near
 pub mod Priced
 -- The distance as a function.
 pub mod UpTo

@@ -1,107 +1,110 @@
--- `route::choose` meets its contract. The loop has passed bytes whose steps do not keep on a best chain.
+-- `route::choose` meets its contract. The loop has passed bytes whose steps do not lead to a place that stands.
 -- Assumes nothing.
-use borrow.Author.Needs.{needs}
 use mathlib.Core.Logic.{⊎-elim}
-use Prim.Native.Nat.{_-_, _≤_}
+use Prim.Native.Nat.{_-_}
 use native.Mathlib.Omega.{arith}
-use Rattle.semantics.specs.Path.{cost}
-use Rattle.reader.specs.Theorems.Access.{counts, lengths}
-use Rattle.route.proofs.Choosing.{Leads, Fails, NoneBelow, step-leads, step-refused, never-taken, test-fails, test-holds, none-first, none-next, not-none}
+use Rattle.reader.specs.declared.Table.{Table}
+use Rattle.route.specs.Walk.{ChooseAt}
+use Rattle.route.proofs.Choosing.{Leads, Fails, NoneBelow, step-leads, step-refused, test-fails, test-holds, chooses-none, next-ready, words-at, none-first, none-next}
 use Rattle.route.proofs.choose.Statement.{statement}
 use Rattle.route.proofs.choose.Tie as tie
 
 abbrev Inv-loop : tie.InvT-loop
-Inv-loop table words place charge left sources byte₀ byte = (byte ≤ 66) × NoneBelow table words place (cost charge left) byte
+Inv-loop words place first steps moves ceilings rates invariants sources targets prices guards resets byte₀ byte =
+    (t : Table) → ChooseAt t place first moves ceilings rates invariants sources targets prices guards resets words
+    → NoneBelow t place first steps words byte
 
 abbrev μ-loop : tie.MeasureT-loop
-μ-loop table words place charge left sources byte₀ byte = 66 - byte
+μ-loop words place first steps moves ceilings rates invariants sources targets prices guards resets byte₀ byte = 66 - byte
 
--- The call, and the byte that the loop is at.
-abbrev start : tie.Then1 Inv-loop μ-loop → tie.Start Inv-loop μ-loop
-start c = c .before .before .before .before .before .before .before
+-- The call, before the loop.
+abbrev start : tie.At-loop Inv-loop μ-loop → tie.Start Inv-loop μ-loop
+start c = c .before .before .before .before .before .before .before .before .before .before
 
 -- The place that an allowed step leads to.
 leads :
-    (c : tie.Then2 Inv-loop μ-loop)
-    → Leads (start (c .before .before .before) .args .table) (start (c .before .before .before) .args .place)
-    (c .before .before .before .before .before .before .before .loop .byte) (c .before .before .step .result .place)
-leads c =
-    let s = start (c .before .before .before) in
-    step-leads (s .args .table) (s .pre .found .is-table) (s .args .place) (s .pre .held) (c .before .before .before .before .before .before .before .loop .byte)
-    (c .before .before .step .result) (c .before .before .step .ensures) (c .if2 .taken)
+    (c : tie.Then1 Inv-loop μ-loop) (t : Table)
+    → (let a = start (c .before .before .before .before) .args in
+    ChooseAt t (a .place) (a .first) (a .moves) (a .ceilings) (a .rates .now) (a .invariants .now) (a .sources .now) (a .targets .now) (a .prices .now)
+    (a .guards .now) (a .resets .now) (a .words .now)
+    → Leads t (a .place) (c .before .before .before .before .loop .byte) (c .before .before .step .result .place))
+leads c t k =
+    let loop = c .before .before .before .before in
+    let a = start loop .args in
+    let stepped = c .before .before .step in
+    step-leads t (k .step .is-table) (a .place) (k .step .held) (loop .loop .byte) (stepped .result) (stepped .ensures t (k .step)) (c .if1 .taken)
 
--- A byte that is passed is not allowed, or does not complete.
+-- A byte that is passed is not allowed, or leads to a place that does not stand.
 passed :
-    (c : tie.Joined1 Inv-loop μ-loop)
-    → Fails (c .before .before .before .before .before .before .before .args .table)
-    (c .before .before .before .before .before .before .before .args .words .now)
-    (c .before .before .before .before .before .before .before .args .place)
-    (cost (c .before .before .before .before .before .before .before .args .charge) (c .before .before .before .before .before .before .before .args .left))
-    (c .before .before .before .before .loop .byte)
-passed c =
-    let s = c .before .before .before .before .before .before .before in
-    let t = s .args .table in
-    let h = s .pre .found .is-table in
-    let byte = c .before .before .before .before .loop .byte in
-    let whole = cost (s .args .charge) (s .args .left) in
+    (c : tie.Joined1 Inv-loop μ-loop) (t : Table)
+    → (let a = start (c .before .before .before .before) .args in
+    ChooseAt t (a .place) (a .first) (a .moves) (a .ceilings) (a .rates .now) (a .invariants .now) (a .sources .now) (a .targets .now) (a .prices .now)
+    (a .guards .now) (a .resets .now) (a .words .now)
+    → Fails t (a .place) (a .steps) (a .words .now) (c .before .before .before .before .loop .byte))
+passed c t k =
+    let loop = c .before .before .before .before in
+    let a = start loop .args in
+    let byte = loop .loop .byte in
+    let stepped = c .before .before .step in
     ⊎-elim
-    (λ w. test-fails t (s .args .words .now) (s .args .place) (s .args .charge) (s .args .left) byte (w .1 .result .place) (w .4 .result) (w .4 .ensures)
-    (step-leads t h (s .args .place) (s .pre .held) byte (w .1 .result) (w .1 .ensures) (w .3 .taken)) (w .5 .left))
-    (λ u. ⊎-elim
-    (λ w. step-refused t h (s .args .place) (s .pre .held) byte (w .1 .result) (w .1 .ensures) (s .args .words .now) whole (w .3 .left))
-    (λ w. never-taken t h (s .args .place) byte (c .before .may-take .result) (c .before .may-take .ensures) (w .left) (s .args .words .now) whole)
-    u)
+    (λ w.
+    let to = leads (record { before = c .before; if1 = w .0 }) t k in
+    test-fails t (a .place) (a .first) (a .steps) (a .words .now) byte (stepped .result .place) (w .1 .result)
+    (w .1 .ensures t (words-at k (stepped .result .place) (to .held)))
+    to
+    (w .2 .left))
+    (λ w. step-refused t (k .step .is-table) (a .place) (k .step .held) byte (stepped .result) (stepped .ensures t (k .step)) (a .steps) (a .words .now) (w .left))
     (c .if1 .came)
 
+next-step-requires : tie.Need-next-step-requires Inv-loop μ-loop
+next-step-requires c κs = next-ready (c .before .before .before .before .before .before .before .before .pre .1)
+
 loop-holds : tie.Need-loop-holds Inv-loop μ-loop
-loop-holds c =
-    let s = c .before .before in
-    (omega arith, none-first (s .args .table) (s .args .words .now) (s .args .place) (cost (s .args .charge) (s .args .left)))
-
-slice-aggregate-may-take : tie.Need-slice-aggregate-may-take Inv-loop μ-loop
-slice-aggregate-may-take c = search needs
-
-may-take-requires : tie.Need-may-take-requires Inv-loop μ-loop
-may-take-requires c κs =
-    let s = c .before .before .before .before .before in
-    let h = s .pre .found .is-table in
-    omega (arith, counts (s .args .table) h, lengths (s .args .table) h .sources-length)
+loop-holds c t k =
+    let s = c .before .before .before .before .before .before .before .before .before in
+    none-first k (s .args .steps) (c .next-step .result) (c .next-step .ensures)
 
 step-requires : tie.Need-step-requires Inv-loop μ-loop
-step-requires c κs = let s = start c in (s .pre .found .is-table, s .pre .held, s .pre .room)
+step-requires c κs = let pre = start (c .before) .pre in (pre .0, pre .1 .step)
 
-completes-requires : tie.Need-completes-requires Inv-loop μ-loop
-completes-requires c κs = let s = start (c .before .before .before) in (s .pre .found .is-table, leads c .held, s .pre .found .room)
+stands-requires : tie.Need-stands-requires Inv-loop μ-loop
+stands-requires c κs =
+    let pre = start (c .before .before .before .before) .pre in
+    (pre .0, words-at (pre .1) (c .before .before .step .result .place) (leads c (pre .0) (pre .1) .held))
 
 returns : tie.Need-returns Inv-loop μ-loop
-returns c =
-    let then2 = c .before .before in
-    let s = start (then2 .before .before .before) in
-    let at-loop = then2 .before .before .before .before .before .before .before in
-    test-holds (s .args .table) (s .args .words .now) (s .args .place) (s .args .charge) (s .args .left) (at-loop .loop .byte)
-    (then2 .before .before .step .result .place) (c .before .completes .result) (c .before .completes .ensures) (leads then2)
-    (c .if3 .taken) (omega (arith, then2 .before .before .before .before .before .before .loop-test .taken)) (at-loop .loop .inv .1)
+returns c t k =
+    let then1 = c .before .before in
+    let loop = then1 .before .before .before .before in
+    let a = start loop .args in
+    let next = then1 .before .before .step .result .place in
+    let to = leads then1 t k in
+    test-holds t (a .place) (a .first) (a .steps) (a .words .now) (loop .loop .byte) next (c .before .stands .result)
+    (c .before .stands .ensures t (words-at k next (to .held)))
+    to
+    (c .if2 .taken)
+    (loop .loop .inv t k)
 
-add-byte : tie.Need-add-byte Inv-loop μ-loop
-add-byte c = omega arith
+add-next-step : tie.Need-add-next-step Inv-loop μ-loop
+add-next-step c = omega arith
+
+next-step-requires-2 : tie.Need-next-step-requires-2 Inv-loop μ-loop
+next-step-requires-2 c κs = next-ready (start (c .before .before .before .before) .pre .1)
 
 loop-less : tie.Need-loop-less Inv-loop μ-loop
-loop-less c = omega arith
+loop-less c = omega (arith, c .next-step2 .ensures .from, c .before .before .before .before .loop-test .taken)
 
 loop-again : tie.Need-loop-again Inv-loop μ-loop
-loop-again c =
-    let s = c .before .before .before .before .before .before .before in
-    let at-loop = c .before .before .before .before in (
-      omega arith,
-      none-next (s .args .table) (s .args .words .now) (s .args .place) (cost (s .args .charge) (s .args .left)) (at-loop .loop .byte)
-          (at-loop .loop .inv .1) (passed c),
-    )
+loop-again c t k =
+    let loop = c .before .before .before .before .before in
+    let a = start loop .args in
+    none-next k (a .steps) (loop .loop .byte) (c .next-step2 .result) (loop .loop .inv t k) (passed (c .before) t k) (c .next-step2 .ensures)
 
 returns-2 : tie.Need-returns-2 Inv-loop μ-loop
-returns-2 c =
-    let s = c .before .before .before .before in
-    absurd (not-none (s .args .table) (s .args .words .now) (s .args .place) (s .args .charge) (s .args .left) (s .pre) (c .before .loop .byte)
-    (c .loop-test .left) (c .before .loop .inv .1))
+returns-2 c t k =
+    let loop = c .before in
+    let a = start loop .args in
+    chooses-none t (a .place) (a .first) (a .steps) (a .words .now) (loop .loop .byte) (c .loop-test .left) (loop .loop .inv t k)
 
 pub choose-spec : {M : Type 1} → statement M
 choose-spec =
@@ -109,13 +112,13 @@ choose-spec =
     (tie.spec
     Inv-loop
     μ-loop
+    next-step-requires
     loop-holds
-    slice-aggregate-may-take
-    may-take-requires
     step-requires
-    completes-requires
+    stands-requires
     returns
-    add-byte
+    add-next-step
+    next-step-requires-2
     loop-less
     loop-again
     returns-2)

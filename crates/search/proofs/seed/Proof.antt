@@ -1,37 +1,25 @@
 -- `search::seed` meets its contract. Assumes nothing.
-use borrow.Author.Needs.{needs}
 use mathlib.Core.Path.{sym}
 use mathlib.Core.List.{_++_}
-use Prim.Native.Nat.{_+_, _*_, _/_, _≤_}
+use Prim.Native.Nat.{_*_}
 use native.Mathlib.Omega.{arith}
-use lib.ListN.{drop}
+use lib.ListN.{drop, length-set}
 use lib.Seq.{length-take-le}
 use Rattle.semantics.specs.Path.{infinity}
-use Rattle.search.proofs.Filling.{Filled, filled-first, filled-part, goal-first, goal-last, seeds-none, seeds-goal}
+use Rattle.search.proofs.Filling.{Filled, filled-first, seeds}
+use borrow.Author.Needs.{needs}
 use Rattle.search.proofs.seed.Statement.{statement}
 use Rattle.search.proofs.seed.Tie as tie
 
--- The first words after the first fill.
+-- The words after the fill.
 blank : (c : tie.After-slice-known2) →
-    Filled infinity 0 (2 * c .before .before .before .before .before .args .nodes) (c .before .before .before .before .before .args .words .now)
-    (c .before .before .fill .last .0 ++ drop (2 * c .before .before .before .before .before .args .nodes) (c .before .before .before .before .before .args .words .now))
+    Filled infinity (2 * c .before .before .before .before .before .args .nodes) (c .before .before .before .before .before .args .words .now)
+    (c .before .before .fill .last .0
+    ++ drop (2 * c .before .before .before .before .before .args .nodes) (c .before .before .before .before .before .args .words .now))
 blank c =
-    filled-first infinity (2 * c .before .before .before .before .before .args .nodes) (c .before .before .before .before .before .args .words .now)
-    (c .before .before .fill .last .0) (c .before .before .before .before .before .pre .room) (c .before .before .fill .ensures)
-
--- The words of the goal are among them.
-among : (c : tie.Then1) →
-    (c .before .before .before .before .before .before .args .goal
-    * (2 * (c .before .before .before .before .before .before .args .nodes / c .before .before .before .before .before .before .args .modes))
-    + 2 * (c .before .before .before .before .before .before .args .nodes / c .before .before .before .before .before .before .args .modes)
-    ≤ 2 * c .before .before .before .before .before .before .args .nodes)
-among c =
-    let s = c .before .before .before .before .before .before in
-    omega (
-      arith,
-      goal-first (s .args .nodes) (s .args .goal) (s .args .modes) (s .args .words .now) (s .pre),
-      goal-last (s .args .nodes) (s .args .goal) (s .args .modes) (s .args .words .now) (s .pre) (c .if1 .taken),
-    )
+    let s = c .before .before .before .before .before in
+    filled-first infinity (2 * s .args .nodes) (s .args .words .now) (c .before .before .fill .last .0) (s .pre .room)
+    (c .before .before .fill .ensures)
 
 mul-end : tie.Need-mul-end
 mul-end c = search needs
@@ -40,65 +28,45 @@ slice-relend-prefix-fill : tie.Need-slice-relend-prefix-fill
 slice-relend-prefix-fill c = search needs
 
 slice-aggregate-fill : tie.Need-slice-aggregate-fill
-slice-aggregate-fill c = sym (length-take-le (2 * c .before .before .args .nodes) (c .before .before .args .words .now) (c .before .before .pre .room))
+slice-aggregate-fill c =
+    let s = c .before .before in
+    sym (length-take-le (2 * s .args .nodes) (s .args .words .now) (s .pre .room))
 
 fill-requires : tie.Need-fill-requires
 fill-requires c κs = search needs
 
-div-share : tie.Need-div-share
-div-share c = search needs
+mul-words : tie.Need-mul-words
+mul-words c = search needs
 
-mul-share : tie.Need-mul-share
-mul-share c = let h = among c in let f = c .before .before .before .before .before .before .pre .few in omega (arith, h, f)
+mul-words-2 : tie.Need-mul-words-2
+mul-words-2 c = search needs
 
-mul-first : tie.Need-mul-first
-mul-first c = let h = among c in let f = c .before .before .before .before .before .before .pre .few in omega (arith, h, f)
+slice-write-words : tie.Need-slice-write-words
+slice-write-words c = search needs
 
-add-last : tie.Need-add-last
-add-last c = let h = among c in let f = c .before .before .before .before .before .before .pre .few in omega (arith, h, f)
+mul-words-3 : tie.Need-mul-words-3
+mul-words-3 c = search needs
 
-mul-fill : tie.Need-mul-fill
-mul-fill c = let h = among c in let f = c .before .before .before .before .before .before .pre .few in omega (arith, h, f)
+add-words : tie.Need-add-words
+add-words c = search needs
 
-sub-fill : tie.Need-sub-fill
-sub-fill c = search needs
+mul-words-4 : tie.Need-mul-words-4
+mul-words-4 c = search needs
 
-part-fill-start : tie.Need-part-fill-start
-part-fill-start c = search needs
-
-part-fill-end : tie.Need-part-fill-end
-part-fill-end c =
-    let h = among c in
-    let r = c .before .before .before .before .before .before .pre .room in
-    let k = blank (c .before) .kept in
-    omega (arith, h, r, k)
-
-fill-requires-2 : tie.Need-fill-requires-2
-fill-requires-2 c κs = search needs
+slice-write-words-2 : tie.Need-slice-write-words-2
+slice-write-words-2 c =
+    let s = c .before .before .before .before .before in
+    let us = c .before .before .fill .last .0 ++ drop (2 * s .args .nodes) (s .args .words .now) in
+    omega (arith, length-set us (2 * s .args .start) 0, blank c .kept, s .pre .room, s .pre .there)
 
 same-length : tie.Need-same-length
 same-length c = search needs
 
-same-length-2 : tie.Need-same-length-2
-same-length-2 c = search needs
-
 returns : tie.Need-returns
 returns c =
-    let t = c .before .before .before .before in
-    let s = t .before .before .before .before .before .before in
-    let nodes = s .args .nodes in
-    let goal = s .args .goal in
-    let modes = s .args .modes in
-    let first = goal * (2 * (nodes / modes)) in
-    let us = t .before .before .before .fill .last .0 ++ drop (2 * nodes) (s .args .words .now) in
-    let f = blank (t .before) in
-    seeds-goal nodes goal modes (s .args .words .now) (s .pre) f (t .if1 .taken)
-    (filled-part 0 first (first + 2 * (nodes / modes)) us (c .before .before .fill2 .last .0) (omega arith) (part-fill-end t) (c .before .before .fill2 .ensures))
-
-returns-2 : tie.Need-returns-2
-returns-2 c =
-    let s = c .before .before .before .before .before .before in
-    seeds-none (s .args .nodes) (s .args .goal) (s .args .modes) (s .args .words .now) (s .pre) (blank (c .before)) (c .if1 .left)
+    let s = c .before .before .before .before .before in
+    let us = c .before .before .fill .last .0 ++ drop (2 * s .args .nodes) (s .args .words .now) in
+    seeds (s .args .nodes) (s .args .start) (s .args .words .now) us (s .pre) (blank c)
 
 pub seed-spec : {M : Type 1} → statement M
 seed-spec =
@@ -108,16 +76,12 @@ seed-spec =
     slice-relend-prefix-fill
     slice-aggregate-fill
     fill-requires
-    div-share
-    mul-share
-    mul-first
-    add-last
-    mul-fill
-    sub-fill
-    part-fill-start
-    part-fill-end
-    fill-requires-2
+    mul-words
+    mul-words-2
+    slice-write-words
+    mul-words-3
+    add-words
+    mul-words-4
+    slice-write-words-2
     same-length
-    returns
-    same-length-2
-    returns-2)
+    returns)

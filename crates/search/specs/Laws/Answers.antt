@@ -10,8 +10,8 @@ use lib.Dec.{leb}
 use lib.ListN.{length, drop, replicate}
 use Rattle.semantics.specs.Automaton.{Automaton}
 use Rattle.semantics.specs.Node.{nodeCount}
-use Rattle.semantics.specs.Distance.{distanceWords}
-use Rattle.semantics.specs.CornerGraph.{cornerGraph}
+use Rattle.semantics.specs.Near.{nearWords}
+use Rattle.semantics.specs.CornerGraph.{startNode, cornerGraph}
 use Rattle.regions.specs.declared.nodes.Nodes.the-variants.{Count, TooMany}
 use Rattle.regions.specs.Nodes.{mostNodes, bounded}
 use Rattle.search.specs.declared.Searched.{Searched}
@@ -64,7 +64,7 @@ module _ (a : Automaton) (lent : ℕ) where
 -- A refusal changes nothing.
 pub searched-refused : (a : Automaton) (l : ℕ) (ws : List ℕ) (k : ℕ) → answered a (length ws) ≡ Refused k → ws ≡ searched a l ws
 unfolding searched
-searched-refused a l ws k e = sym (ap (λ (r : Searched). unlessRefused r (distanceWords (cornerGraph a l)) ws) e)
+searched-refused a l ws k e = sym (ap (λ (r : Searched). unlessRefused r (nearWords (cornerGraph a l) (startNode a)) ws) e)
 
 pub cleared-refused : (a : Automaton) (ws : List ℕ) (k : ℕ) → answered a (length ws) ≡ Refused k → ws ≡ cleared a ws
 unfolding cleared
@@ -72,9 +72,9 @@ cleared-refused a ws k e = sym (ap (λ (r : Searched). unlessRefused r (replicat
 
 -- Otherwise the first words change.
 pub searched-nodes : (a : Automaton) (l : ℕ) (ws : List ℕ) (n : ℕ) → answered a (length ws) ≡ Nodes n →
-    distanceWords (cornerGraph a l) ++ drop (2 * n) ws ≡ searched a l ws
+    nearWords (cornerGraph a l) (startNode a) ++ drop (2 * n) ws ≡ searched a l ws
 unfolding searched
-searched-nodes a l ws n e = sym (ap (λ (r : Searched). unlessRefused r (distanceWords (cornerGraph a l)) ws) e)
+searched-nodes a l ws n e = sym (ap (λ (r : Searched). unlessRefused r (nearWords (cornerGraph a l) (startNode a)) ws) e)
 
 pub cleared-nodes : (a : Automaton) (ws : List ℕ) (n : ℕ) → answered a (length ws) ≡ Nodes n → n ≡ nodeCount a →
     replicate (2 * n) 0 ++ drop (2 * n) ws ≡ cleared a ws

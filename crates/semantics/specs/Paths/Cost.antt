@@ -37,12 +37,9 @@ pub cost-weaken : (a b : Cost) → a ≺ b → a ≼ b
 cost-weaken a b (inl x) = inl x
 cost-weaken a b (inr x) = inr (omega arith)
 
--- A cost may be put for one that is the same, on either side.
+-- A cost may be put for one that is the same.
 pub same-less : (a b c : Cost) → a ≡ b → b ≼ c → a ≼ c
 same-less a b c e h = subst (λ (x : Cost). x ≼ c) (sym e) h
-
-pub less-same : (a b c : Cost) → a ≼ b → b ≡ c → a ≼ c
-less-same a b c h e = subst (λ (x : Cost). a ≼ x) e h
 
 -- Less than what is at most a cost is less than it.
 pub less-trans : (a b c : Cost) → a ≺ b → b ≼ c → a ≺ c

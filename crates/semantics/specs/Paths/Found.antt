@@ -1,19 +1,16 @@
--- Words that hold the least costs are the words of the distances, and the words of the distances hold the least costs.
+-- Words that hold the entries of a table node by node: they are its words in a row, and the other way round.
 -- Assumes nothing.
 use mathlib.Core.Path.{_≡_, refl, sym, ap, ap₂, _∙_}
 use mathlib.Core.Logic.{_≢_}
 use mathlib.Core.List.{List, [], _∷_, _++_, append-assoc}
 use Prim.Native.Nat.{ℕ, zero, suc, _+_, _*_, _≤_, _<_}
-use native.Mathlib.Nat.{zero-add}
 use native.Mathlib.Omega.{arith}
 use lib.ListN.{length, getD, drop}
 use Rattle.semantics.specs.Corner.{countFrom, flatMap}
-use Rattle.semantics.specs.Path.{Graph, Closed, Cost, Entry, unreached, reached, LeastCosts, infinity, chargeAt, stepsAt, table}
-use Rattle.semantics.specs.Distance.{distance, entryWords, distanceWords}
-use Rattle.semantics.specs.Paths.Least.{tables-agree}
+use Rattle.semantics.specs.Path.{Cost, Entry, unreached, reached, infinity, chargeAt, stepsAt, table}
+use Rattle.semantics.specs.Distance.{entryWords}
 use Rattle.semantics.specs.Paths.Words.{table-unreached, table-holds, reached-words, unreached-words}
 use Rattle.semantics.specs.Paths.Update.{Blank}
-use Rattle.semantics.specs.Paths.UpTo.{distance-least}
 
 -- The two words of node v.
 abbrev pub wordsAt : List ℕ → ℕ → List ℕ
@@ -80,28 +77,3 @@ module _ (d : ℕ → Entry) where
   words-scattered (suc n) i rest (suc v) h =
       let next : suc i + v ≡ i + suc v = omega arith in
       later-of (d i) (wordsOf (suc i) n) rest v ∙ words-scattered n (suc i) rest v (omega arith) ∙ ap (λ (u : ℕ). entryWords (d u)) next
-
--- Words that hold the least costs begin with the words of the distances.
-pub words-found :
-    (g : Graph) (ws : List ℕ) → Closed g → 2 * g .nodes ≤ length ws → LeastCosts g (table ws) → ((v : ℕ) → v < g .nodes → Blank ws v)
-    → ws ≡ distanceWords g ++ drop (2 * g .nodes) ws
-unfolding distanceWords
-words-found g ws closed room exact blank =
-    words-gathered (distance g) (g .nodes) 0 ws room
-    (λ v h. entry-words ws v (blank v h) (distance g (0 + v))
-    (tables-agree g (table ws) (distance g) exact (distance-least g closed) v h ∙ ap (distance g) (sym (zero-add v))))
-
--- Words that begin with those of the distances hold the least costs, if no least charge is infinity.
-pub found-least :
-    (g : Graph) (ws : List ℕ) → Closed g → (rest : List ℕ) → ws ≡ distanceWords g ++ rest
-    → ((v : ℕ) (c : Cost) → v < g .nodes → distance g v ≡ reached c → c .charge ≢ infinity) → LeastCosts g (table ws)
-unfolding distanceWords
-found-least g ws closed rest e known =
-    let exact = distance-least g closed in
-    let same : (v : ℕ) → v < g .nodes → distance g v ≡ table ws v =
-    λ v h. sym (words-entry ws v (distance g v) (λ c. known v c h)
-    (ap (λ (l : List ℕ). wordsAt l v) e ∙ words-scattered (distance g) (g .nodes) 0 rest v h ∙ ap (λ (u : ℕ). entryWords (distance g u)) (zero-add v))) in
-    record {
-      least = λ v c h q. exact .least v c h (same v h ∙ q);
-      no-path = λ v h q. exact .no-path v h (same v h ∙ q);
-    }

@@ -52,18 +52,3 @@ module _ (g : Graph) (d : ℕ → Entry) (exact : LeastCosts g d) (v : ℕ) (h :
       at : (x : Entry) → d v ≡ x → d v ≡ reached c
       at unreached q = absurd (exact .no-path v h q (l .attained .path) (l .attained .is-path))
       at (reached b) q = rw (least-unique g v c b l (exact .least v b h q)) q
-
-  pub none-unreached : ((p : List Edge) → IsPath g v p → ⊥) → d v ≡ unreached
-  none-unreached none = at (d v) refl
-    where
-      at : (x : Entry) → d v ≡ x → d v ≡ unreached
-      at unreached q = q
-      at (reached b) q = let r = exact .least v b h q .attained in absurd (none (r .path) (r .is-path))
-
--- Two tables of least costs have the same entries.
-pub tables-agree : (g : Graph) (d d′ : ℕ → Entry) → LeastCosts g d → LeastCosts g d′ → (v : ℕ) → v < g .nodes → d v ≡ d′ v
-tables-agree g d d′ x y v h = at (d′ v) refl
-  where
-    at : (b : Entry) → d′ v ≡ b → d v ≡ d′ v
-    at unreached q = rw q (none-unreached g d x v h (y .no-path v h q))
-    at (reached c) q = rw q (least-reached g d x v h c (y .least v c h q))

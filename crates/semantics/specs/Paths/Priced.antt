@@ -1,17 +1,19 @@
--- A system whose prices are costs of paths from the start node: at the states that its labels lead to, a table of the nodes on best paths and
--- a table of all least costs agree on what can be completed.
+-- A system whose prices are costs of paths from the start node: what the least cost of that node says of the states that its labels lead to.
 -- Assumes nothing.
 use mathlib.Core.Path.{_≡_, sym, ap, subst, _∙_}
+use mathlib.Core.Logic.{inl, inr}
 use mathlib.Core.Option.{some}
 use Prim.Native.Nat.{ℕ, suc, _+_, _<_}
 use native.Mathlib.Omega.{arith}
-use Rattle.semantics.specs.Path.{Graph, Cost, cost, HasCost, Least, Entry, along}
+use Rattle.semantics.specs.Path.{Graph, Cost, cost, costOf, _≼_, HasCost, Least, Entry, along}
+use Rattle.semantics.specs.Paths.Cost.{same-less}
+use Rattle.semantics.specs.Paths.Least.{no-less-cost}
+use Rattle.semantics.specs.Paths.Spread.{path-cost}
 use Rattle.semantics.specs.Paths.System.{System, Follows}
-use Rattle.semantics.specs.Paths.Route.{Completes, Routing}
+use Rattle.semantics.specs.Paths.Route.{raised, Completes, LowerBound, Routing}
 use Rattle.semantics.specs.Paths.Start.{StartsAt}
-use Rattle.semantics.specs.Best.{turned, plus}
-use Rattle.semantics.specs.Paths.Turned.{turned-start, turned-more}
-use Rattle.semantics.specs.Paths.Onto.{BestCosts, best-all, best-entry}
+use Rattle.semantics.specs.Near.{turned}
+use Rattle.semantics.specs.Paths.Turned.{plus, plus-cancel-less, turned-start, turned-more, turned-then}
 
 -- Every corner of x has its price by a path of n steps from node v.
 abbrev pub Priced : (g : Graph) (s : System) → ℕ → s .State → ℕ → Type 0
@@ -40,32 +42,33 @@ priced-step g s Valid laws v x y l n ok e k i h =
     subst (λ (u : ℕ). HasCost (turned g v) u (cost (s .price y i) (suc n))) (r .leads)
     (subst (HasCost (turned g v) (r .edge .to)) sum more)
 
-module _ {g : Graph} {s : System} {Valid : s .State → Type 0} {D : ℕ → Entry} (r : Routing g s Valid D) where
-  module _ (v : ℕ) (d : ℕ → Entry) (best : BestCosts g v d) (x : s .State) (ok : Valid x) where
-    -- What can be completed by the nodes on best paths can be completed by all least costs.
-    pub completes-all : (c : Cost) → Completes s d x c → Completes s D x c
-    completes-all c t = record {
-      corner = t .corner;
-      among = t .among;
-      left = t .left;
-      entry = best-all best (r .exact) (s .node x (t .corner)) (cost (t .left) (c .steps)) (r .laws .inside x (t .corner) ok (t .among)) (t .entry);
-      sum = t .sum;
-    }
+-- A state x, whose corners have their prices by paths of n steps from v, with m of the steps of the least cost of v to come.
+module _ {g : Graph} {s : System} {Valid : s .State → Type 0} {D : ℕ → Entry} (r : Routing g s Valid D) (v : ℕ) (B : Cost) (best : Least g v B)
+    (x : s .State) (ok : Valid x) (n m : ℕ) (counted : n + m ≡ B .steps) (priced : Priced g s v x n) where
+  -- A path to a corner and the best one from there cost no less than the best one.
+  pub priced-bound : LowerBound s D x (cost (B .charge) m)
+  priced-bound j h c q =
+      let u = s .node x j in
+      let before = cost (s .price x j) n in
+      let rest = r .exact .least u c (r .laws .inside x j ok h) q .attained in
+      at (no-less-cost g v B (plus before c) best (turned-then g v u before c (priced j h) rest))
+    where
+      at : B ≼ plus (cost (s .price x j) n) c → cost (B .charge) m ≼ raised (s .price x j) c
+      at (inl z) = inl z
+      at (inr z) = inr (z .0, omega arith)
 
-    -- And the other way round, if the steps to x and those left are the steps of the least cost of v.
-    pub completes-best :
-        (B : Cost) → Least g v B → (m n : ℕ) → m + n ≡ B .steps → Priced g s v x m → Completes s D x (cost (B .charge) n)
-        → Completes s d x (cost (B .charge) n)
-    completes-best B l m n e k t =
+  -- Where the rest of the least cost can be completed, no path to the corner costs less than the corner's price in n steps.
+  pub priced-least :
+      (t : Completes s D x (cost (B .charge) m)) → Least (turned g v) (s .node x (t .corner)) (cost (s .price x (t .corner)) n)
+  priced-least t = record {
+    attained = priced (t .corner) (t .among);
+    least = λ p w.
         let u = s .node x (t .corner) in
-        let before = cost (s .price x (t .corner)) m in
-        let left = cost (t .left) n in
-        let whole : plus before left ≡ B = λ i. record { charge = t .sum i; steps = e i } in
-        let inside = r .laws .inside x (t .corner) ok (t .among) in
-        record {
-          corner = t .corner;
-          among = t .among;
-          left = t .left;
-          entry = best-entry best (r .exact) B l u before left inside (k (t .corner) (t .among)) .1 (t .entry, whole) .0;
-          sum = t .sum;
-        }
+        let before = cost (s .price x (t .corner)) n in
+        let left = cost (t .left) m in
+        let whole : plus before left ≡ B = λ i. record { charge = t .sum i; steps = counted i } in
+        let rest = r .exact .least u left (r .laws .inside x (t .corner) ok (t .among)) (t .entry) .attained in
+        let other = turned-then g v u (costOf p) left (path-cost (turned g v) u p w) rest in
+        let low = no-less-cost g v B (plus (costOf p) left) best other in
+        plus-cancel-less before left (costOf p) (same-less (plus before left) B (plus (costOf p) left) whole low);
+  }

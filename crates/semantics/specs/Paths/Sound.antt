@@ -1,5 +1,4 @@
--- What holds of the words all through the search, and that a store of a lesser cost keeps it. Once no edge improves an entry, the words
--- hold the least costs. The measure of the search falls with every store.
+-- What holds of the words all through the search, and that a store of a lesser cost keeps it. The measure of the search falls with every store.
 -- Assumes nothing.
 use mathlib.Core.Path.{_≡_, refl, _∙_}
 use mathlib.Core.Logic.{_≢_, inl, inr}
@@ -8,10 +7,9 @@ use Prim.Native.Nat.{ℕ, suc, _+_, _*_, _≤_, _<_}
 use native.Mathlib.Decide.{ℕ-discrete}
 use native.Mathlib.Omega.{arith}
 use lib.ListN.{length}
-use Rattle.semantics.specs.Path.{Edge, Graph, Leaves, Target, Closed, WeightsWithin, Cost, cost, _≼_, _≺_, HasCost, Entry, unreached, reached, LeastCosts, Attained, Within, along, Relaxed, infinity, chargeAt, stepsAt, table}
+use Rattle.semantics.specs.Path.{Edge, Graph, Target, Closed, WeightsWithin, Cost, cost, _≼_, _≺_, HasCost, Entry, unreached, reached, Attained, Within, along, Relaxed, infinity, chargeAt, stepsAt, table}
 use Rattle.semantics.specs.Paths.Cost.{cost-trans, cost-weaken, cost-both}
 use Rattle.semantics.specs.Paths.Loops.{path-charge}
-use Rattle.semantics.specs.Paths.Distance.{least-costs}
 use Rattle.semantics.specs.Paths.Words.{HoldsCost, table-reached, table-stored, table-other, reached-words, stored, stored-length, stored-charge, stored-steps, other-charge, other-steps}
 use Rattle.semantics.specs.Paths.Sum.{sum, sum-less}
 
@@ -21,10 +19,6 @@ pub record Sound (g : Graph) (ws : List ℕ) : Type 0 where
   pub attained : Attained g (table ws)
   pub few : (v : ℕ) (c : Cost) → v < g .nodes → table ws v ≡ reached c → c .steps < g .nodes
   pub targets : (v : ℕ) → v < g .nodes → Target g v → table ws v ≡ reached (cost 0 0)
-
--- No edge that leaves v improves its entry.
-abbrev pub NodeRelaxed : Graph → (ℕ → Entry) → ℕ → Type 0
-NodeRelaxed g d v = (e : Edge) → Leaves g v e → Relaxed g d v e
 
 -- The cost in the words of node v, which is infinite if the node is unreached.
 abbrev pub costAt : List ℕ → ℕ → Cost
@@ -43,11 +37,6 @@ abbrev pub Lower : Entry → Entry → Type 0
 Lower x y = (c : Cost) → Within y c → Within x c
 
 module _ (g : Graph) (ws : List ℕ) where
-  -- Sound words in which no edge improves an entry hold the least costs.
-  pub sound-least : Closed g → Sound g ws → ((v : ℕ) → v < g .nodes → NodeRelaxed g (table ws) v) → LeastCosts g (table ws)
-  sound-least closed ok relaxed =
-      least-costs g closed (table ws) (ok .attained) (record { targets = ok .targets; relaxed = λ v e h l. relaxed v h e l })
-
   -- A reached charge is at most the greatest weight for each step.
   pub sound-bound :
       Closed g → (w : ℕ) → WeightsWithin g w → Sound g ws → (v : ℕ) → v < g .nodes → chargeAt ws v ≢ infinity

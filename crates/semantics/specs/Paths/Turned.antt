@@ -5,15 +5,19 @@ use mathlib.Core.Path.{_≡_, refl, ap, _∙_, sym}
 use mathlib.Core.Bool.{Bool, true, false, cond}
 use mathlib.Core.Logic.{_↔_, _⊎_, inl, inr}
 use mathlib.Core.List.{List, [], _∷_, List·Memᴰ, List·Memᴰ·head, List·Memᴰ·tail, List·Memᴰ·not-nil, List·Memᴰ·cases-cons}
-use Prim.Native.Nat.{ℕ, _<_}
+use Prim.Native.Nat.{ℕ, _+_, _<_}
 use native.Mathlib.Omega.{arith}
 use lib.Dec.{eqb}
 use borrow.Author.Tests.{eq-eqb, eqb-true}
 use Rattle.semantics.specs.Corner.{countFrom}
 use Rattle.semantics.specs.Corners.Lists.{mem-below, below-bound, mem-flatMap, mem-of-flatMap}
 use Rattle.semantics.specs.Path.{Edge, Graph, Leaves, Target, Closed, WeightsWithin, IsPath, Cost, cost, costOf, _≼_, HasCost, along}
-use Rattle.semantics.specs.Best.{turn, turnedTo, turned, plus}
-use Rattle.semantics.specs.Paths.Cost.{cost-same, cost-both}
+use Rattle.semantics.specs.Near.{turn, turnedTo, turned}
+use Rattle.semantics.specs.Paths.Cost.{cost-same}
+
+-- One cost and then another.
+abbrev pub plus : Cost → Cost → Cost
+plus a b = cost (a .charge + b .charge) (a .steps + b .steps)
 
 -- The path of no edges adds nothing, behind a cost or before it.
 pub plus-none : (a : Cost) → plus a (cost 0 0) ≡ a
@@ -30,15 +34,6 @@ plus-along e a b = cost-same (plus a (along e b)) (plus (along e a) b) (omega ar
 pub plus-cancel-less : (a b c : Cost) → plus a b ≼ plus c b → a ≼ c
 plus-cancel-less a b c (inl x) = inl (omega arith)
 plus-cancel-less a b c (inr x) = inr (omega arith)
-
--- And so may what comes before both.
-pub plus-cancel-first : (a b c : Cost) → plus a b ≼ plus a c → b ≼ c
-plus-cancel-first a b c (inl x) = inl (omega arith)
-plus-cancel-first a b c (inr x) = inr (omega arith)
-
--- The first part of a sum is at most the sum.
-pub plus-more : (a b : Cost) → a ≼ plus a b
-plus-more a b = cost-both a (plus a b) (omega arith) (omega arith)
 
 -- The cost without its first edge is at most another if with the edge it is.
 pub along-cancel-less : (e : Edge) (a b : Cost) → along e a ≼ along e b → a ≼ b

@@ -23,9 +23,6 @@ less-false : (b a : Cost) → a ≼ b → isLess b a ≡ false
 less-false b a (inl h) = rw (le-ltb (b .charge) (a .charge) (omega arith), ne-eqb (b .charge) (a .charge) (λ e. omega arith))
 less-false b a (inr h) = rw (le-ltb (b .charge) (a .charge) (omega (arith, h .0)), eq-eqb (b .charge) (a .charge) (sym (h .0)), le-ltb (b .steps) (a .steps) (h .1))
 
-cost-refl : (c : Cost) → c ≼ c
-cost-refl c = inr (refl, omega arith)
-
 -- The lesser of two entries is within each of them, and is one of them.
 lesser-left : (x y : Entry) (c : Cost) → Within x c → Within (lesser x y) c
 lesser-left unreached y c w = absurd w

@@ -1,17 +1,16 @@
--- What the relaxing of edges does to the words of the search, be it of one edge or of those of many nodes; and what it leaves of edges that
--- were relaxed before.
+-- What the relaxing of edges does to the words of the search, be it of one edge or of those of many nodes.
 -- Assumes nothing.
 use mathlib.Core.Path.{_≡_, refl, sym, _∙_}
-use mathlib.Core.Bool.{Bool, true, false, _||_, or-true}
+use mathlib.Core.Bool.{Bool, true, false, _||_}
 use mathlib.Core.Logic.{_≢_, _⊎_, inl, inr}
 use mathlib.Core.List.{List, _∷_}
 use Prim.Native.Nat.{ℕ, suc, _+_, _*_, _≤_, _<_}
-use native.Mathlib.Decide.{ℕ-discrete, decLt}
+use native.Mathlib.Decide.{ℕ-discrete}
 use native.Mathlib.Omega.{arith}
 use lib.ListN.{length, drop}
 use Rattle.semantics.specs.Path.{Edge, Graph, Leaves, Cost, _≺_, HasCost, Relaxed, infinity, chargeAt, stepsAt, table}
 use Rattle.semantics.specs.Paths.Words.{table-reached, table-other, stored, stored-length, stored-rest, stored-charge, other-charge, other-steps}
-use Rattle.semantics.specs.Paths.Sound.{Sound, Lower, costAt, measure, stored-lower, stored-measure, sound-stored, relaxed-kept}
+use Rattle.semantics.specs.Paths.Sound.{Sound, Lower, costAt, measure, stored-lower, stored-measure, sound-stored}
 
 -- A node is not among those from lo to below hi.
 abbrev pub Outside : ℕ → ℕ → ℕ → Type 0
@@ -125,47 +124,3 @@ update-then {g} {lo} {hi} {ws} {ws′} {ws″} a b {k} flag p q = record {
 pub record Relaxes (g : Graph) (v : ℕ) (e : Edge) (ws ws′ : List ℕ) (changed : Bool) : Type 0 where
   pub update : Update g v (v + 1) ws ws′ changed
   pub relaxed : Relaxed g (table ws′) v e
-
--- An edge of node v that improves nothing; or it leads to a node from lo to hi, where something was stored since it was relaxed.
-pub data Fresh (g : Graph) (lo hi : ℕ) (ws : List ℕ) (changed : Bool) (v : ℕ) (e : Edge) : Type 0 where
-  settled : Relaxed g (table ws) v e → Fresh g lo hi ws changed v e
-  stale : changed ≡ true → lo ≤ e .to → e .to < hi → Fresh g lo hi ws changed v e
-
--- It is the first, if it leads elsewhere.
-pub fresh-outside :
-    {g : Graph} {lo hi : ℕ} {ws : List ℕ} {b : Bool} {v : ℕ} {e : Edge} → Fresh g lo hi ws b v e → Outside lo hi (e .to)
-    → Relaxed g (table ws) v e
-fresh-outside (settled r) o = r
-fresh-outside (stale c l h) (inl x) = absurd (omega arith)
-fresh-outside (stale c l h) (inr x) = absurd (omega arith)
-
--- Nodes from lo′ to hi′ have those from lo to hi among them, and more may have been stored.
-pub fresh-wider :
-    {g : Graph} {lo hi : ℕ} {ws : List ℕ} {b k : Bool} {v : ℕ} {e : Edge} (lo′ hi′ : ℕ) → lo′ ≤ lo → hi ≤ hi′ → (b ≡ true → k ≡ true)
-    → Fresh g lo hi ws b v e → Fresh g lo′ hi′ ws k v e
-fresh-wider lo′ hi′ i j more (settled r) = settled r
-fresh-wider lo′ hi′ i j more (stale c l h) = stale (more c) (omega arith) (omega arith)
-
-module _ {g : Graph} {lo hi : ℕ} {ws ws′ : List ℕ} {b : Bool} (u : Update g lo hi ws ws′ b) (v : ℕ) (e : Edge) where
-  -- An edge that leads elsewhere is still relaxed after an update.
-  pub relaxed-outside : Outside lo hi (e .to) → Relaxed g (table ws) v e → Relaxed g (table ws′) v e
-  relaxed-outside o r = relaxed-kept g (table ws) (table ws′) v e (u .lower v) (u .only (e .to) o) r
-
-  -- An edge that was relaxed is fresh after it.
-  pub relaxed-then : Relaxed g (table ws) v e → Fresh g lo hi ws′ b v e
-  relaxed-then r = at b refl (decLt (e .to) lo) (decLt (e .to) hi)
-    where
-      at : (k : Bool) → b ≡ k → Dec (e .to < lo) → Dec (e .to < hi) → Fresh g lo hi ws′ b v e
-      at false f d d′ = settled (rw (u .same f) r)
-      at true f (yes h) d = settled (relaxed-outside (inl h) r)
-      at true f (no h) (no k) = settled (relaxed-outside (inr (omega arith)) r)
-      at true f (no h) (yes k) = stale f (omega arith) k
-
-  -- And so is one that was fresh.
-  pub fresh-then : (a : Bool) {k : Bool} → (a || b) ≡ k → Fresh g lo hi ws a v e → Fresh g lo hi ws′ k v e
-  fresh-then a {k} flag (stale c l h) = stale (rw (← flag, c) refl) l h
-  fresh-then a {k} flag (settled r) = at (relaxed-then r)
-    where
-      at : Fresh g lo hi ws′ b v e → Fresh g lo hi ws′ k v e
-      at (settled r′) = settled r′
-      at (stale c l h) = stale (rw (← flag, c) (or-true a)) l h

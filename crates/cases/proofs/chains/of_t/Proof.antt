@@ -1,15 +1,13 @@
 -- `cases::chains::of_t` meets its contract. The search answers with a number of nodes, so that there are words for them.
 -- Assumes nothing.
-use mathlib.Core.Path.{_≡_, sym, _∙_}
-use Prim.Native.Nat.{_*_, _≤_}
+use mathlib.Core.Path.{_≡_, sym, subst, _∙_}
 use native.Mathlib.Omega.{arith}
 use borrow.Author.Needs.{needs}
 use lib.Dec.{lit≤}
 use lib.ListN.{length}
-use Rattle.semantics.specs.Node.{nodeCount}
 use Rattle.reader.specs.Held.{IsTable}
 use Rattle.reader.specs.Theorems.Holding.{accepted-table}
-use Rattle.search.specs.Regions.{automatonOf}
+use Rattle.cases.specs.Step.{HasWords}
 use Rattle.cases.proofs.Standing.{words-lent}
 use Rattle.cases.proofs.chains.of_t.Statement.{statement}
 use Rattle.cases.proofs.chains.of_t.Tie as tie
@@ -26,13 +24,14 @@ accepted c =
 lent :
     (c : tie.After-enum-told3)
     → let found = c .before .before .before in
-    2 * nodeCount (automatonOf (found .before .before .before .before .before .read .result .table)) ≤ length (found .search .last .1 .1 .0)
+    HasWords (found .before .before .before .before .before .read .result .table) (length (found .search .last .1 .1 .0))
 lent c =
     let found = c .before .before .before in
+    let t = found .before .before .before .before .before .read .result .table in
     let many : length (found .search .last .1 .1 .0) ≡ 54 = search needs in
-    let a = automatonOf (found .before .before .before .before .before .read .result .table) in
-    let answer = words-lent a 54 (c .enum-told3 .given .0 .0) (sym (found .search .ensures .0) ∙ c .enum-told3 .given .1) in
-    omega (arith, many, answer)
+    let is-table = accepted (found .before .before .before) in
+    let answer = words-lent t is-table 54 (c .enum-told3 .given .0 .0) (sym (found .search .ensures .0) ∙ c .enum-told3 .given .1) in
+    subst (HasWords t) (sym many) answer
 
 read-requires : tie.Need-read-requires
 read-requires c κs = search needs
@@ -76,7 +75,7 @@ slice-aggregate-follow-2 c = search needs
 follow-requires : tie.Need-follow-requires
 follow-requires c κs =
     let found = c .before .before .before .before in
-    (accepted (found .before .before .before .before .before .before), lent found, lit≤ tt)
+    (lent found, lit≤ tt)
 
 slice-aggregate-text-2 : tie.Need-slice-aggregate-text-2
 slice-aggregate-text-2 c = search needs
@@ -93,7 +92,7 @@ slice-aggregate-follow-4 c = search needs
 follow-requires-2 : tie.Need-follow-requires-2
 follow-requires-2 c κs =
     let found = c .before .before .before .before .before .before .before .before .before in
-    (accepted (found .before .before .before .before .before .before), lent found, lit≤ tt)
+    (lent found, lit≤ tt)
 
 returns-3 : tie.Need-returns-3
 returns-3 c = search needs

@@ -1,0 +1,221 @@
+-- What the words of a search say of the goal: the least cost of its nodes is that of the route, and the entries are the least costs from the start
+-- as far as they are as near as that.
+-- Assumes nothing.
+use mathlib.Core.Path.{_≡_, refl, sym, ap, _∙_}
+use mathlib.Core.Bool.{Bool, true, false, cond}
+use mathlib.Core.Logic.{_≢_, _⊎_, inl, inr}
+use mathlib.Core.List.{List, _++_}
+use Prim.Native.Nat.{ℕ, zero, suc, _+_, _*_, _/_, _≤_, _<_}
+use native.Mathlib.Nat.{zero-add, suc-mul, mul-le-mul-right}
+use native.Mathlib.Omega.{arith}
+use borrow.Author.Tests.{eqb-true, eqb-false}
+use lib.Dec.{eqb}
+use lib.ListN.{length, getD, drop, length-append, length-drop}
+use Rattle.semantics.specs.Corner.{countFrom, flatMap}
+use Rattle.semantics.specs.Path.{Graph, Target, Closed, WeightsWithin, Cost, cost, _≼_, Entry, unreached, reached, infinity, chargeAt, stepsAt, table}
+use Rattle.semantics.specs.Node.{nodeCount}
+use Rattle.semantics.specs.Distance.{distance, entryWords}
+use Rattle.semantics.specs.Near.{turned, near, nearWords}
+use Rattle.semantics.specs.CornerGraph.{startNode, cornerGraph}
+use Rattle.semantics.specs.Nodes.Number.{nodeAt-node}
+use Rattle.semantics.specs.Paths.Words.{table-unreached, table-holds, reached-words}
+use Rattle.semantics.specs.Paths.Update.{Blank}
+use Rattle.semantics.specs.Paths.Ahead.{anyCharge}
+use Rattle.semantics.specs.Paths.Found.{wordsAt, words-scattered}
+use Rattle.semantics.specs.Paths.Near.{BestTarget, words-near, near-best}
+use Rattle.semantics.specs.Answers.Graph.{graph-nodes, graph-closed, graph-weights}
+use Rattle.semantics.specs.Answers.Modes.{graph-goal}
+use Rattle.semantics.specs.Answers.Walk.{NearCosts}
+use Rattle.reader.specs.declared.Table.{Table}
+use Rattle.reader.specs.Fields.{mostPrice}
+use Rattle.reader.specs.Held.{IsTable}
+use Rattle.reader.specs.Theorems.Access.{table-proper, mode-count, counts, amounts-within}
+use Rattle.regions.specs.Nodes.{mostNodes}
+use Rattle.search.specs.declared.Searched.{Searched}
+use Rattle.search.specs.declared.Searched.the-variants.{Nodes, Refused}
+use Rattle.search.specs.declared.near.Cost.{Cost as CostHeld}
+use Rattle.search.specs.Regions.{automatonOf, graphOf, startOf, share}
+use Rattle.search.specs.Near.{BestRoom, InMode, IsBest}
+use Rattle.search.specs.Outcome.{answered, searched}
+use Rattle.search.specs.Laws.Answers.{answer-nodes, answer-fits, searched-refused, searched-nodes}
+use Rattle.search.specs.Laws.Shares.{share-quotient, nodes-shared, mode-block, start-below}
+
+-- The entry that a struct holds: unreached is infinity.
+abbrev pub costEntry : CostHeld → Entry
+costEntry r = cond (eqb (r .charge) infinity) unreached (reached (cost (r .charge) (r .steps)))
+
+-- What is unreached has infinity as its charge.
+pub entry-none : (r : CostHeld) → costEntry r ≡ unreached → r .charge ≡ infinity
+entry-none r = go (eqb (r .charge) infinity) refl
+  where
+    go : (b : Bool) → eqb (r .charge) infinity ≡ b → cond b unreached (reached (cost (r .charge) (r .steps))) ≡ unreached → r .charge ≡ infinity
+    go true e q = eqb-true (r .charge) infinity e
+    go false e q = let z : _≡_ {A = ℕ} 0 1 = cc in absurd (omega arith)
+
+-- What is reached has the struct's charge and steps.
+pub entry-some : (r : CostHeld) (c : Cost) → costEntry r ≡ reached c → (r .charge ≢ infinity) × (r .charge ≡ c .charge) × (r .steps ≡ c .steps)
+entry-some r c = go (eqb (r .charge) infinity) refl
+  where
+    go :
+        (b : Bool) → eqb (r .charge) infinity ≡ b → cond b unreached (reached (cost (r .charge) (r .steps))) ≡ reached c
+        → (r .charge ≢ infinity) × (r .charge ≡ c .charge) × (r .steps ≡ c .steps)
+    go true e q = let z : _≡_ {A = ℕ} 0 1 = cc in absurd (omega arith)
+    go false e q = (eqb-false (r .charge) infinity e, cc, cc)
+
+-- The nodes of the goal are the targets.
+module _ (t : Table) (ok : IsTable t) (goal nodes modes : ℕ) (counted : nodes ≡ nodeCount (automatonOf t)) (modes-are : modes ≡ t .modes) where
+  -- How many nodes a mode has.
+  quotient : nodes / modes ≡ share t
+  quotient = rw (counted, modes-are) (share-quotient t ok)
+
+  -- A target is a node of the goal.
+  target-in : (v : ℕ) → v < graphOf t goal .nodes → Target (graphOf t goal) v → InMode nodes goal modes v
+  target-in v h x =
+      let a = automatonOf t in
+      let mode = graph-goal a goal v .0 x in
+      let below : v < nodeCount a = rw (graph-nodes a goal) at h in
+      let there : goal < t .modes = omega (arith, nodeAt-node a v below .mode, mode-count t ok, mode) in
+      let block = mode-block t ok goal goal there v h .0 mode in
+      rw quotient (omega (arith, modes-are), block .0, block .1)
+
+  -- And a node of the goal is a target.
+  in-target : (v : ℕ) → InMode nodes goal modes v → (v < graphOf t goal .nodes) × Target (graphOf t goal) v
+  in-target v i =
+      let a = automatonOf t in
+      let there : goal < t .modes = omega (arith, i .0, modes-are) in
+      let from : goal * share t ≤ v = rw quotient at (i .1) in
+      let to : v < goal * share t + share t = rw quotient at (i .2) in
+      let few : suc goal * share t ≤ t .modes * share t = mul-le-mul-right (share t) there in
+      let below : v < nodeCount a = omega (arith, to, few, suc-mul goal (share t), nodes-shared t ok) in
+      let inside : v < graphOf t goal .nodes = rw (graph-nodes a goal) below in
+      (inside, graph-goal a goal v .1 (mode-block t ok goal goal there v inside .1 (from, to)))
+
+  -- The least cost of the goal's nodes is the least entry of the targets.
+  pub best-target : (ws : List ℕ) (r : CostHeld) → IsBest nodes goal modes ws r → BestTarget (graphOf t goal) ws (costEntry r)
+  best-target ws r best = record {
+    none = λ q v h x. table-unreached ws v (best .unreached (entry-none r q) .1 v (target-in v h x));
+    some = λ c q.
+        let k = entry-some r c q in
+        let o = best .attained (k .0) in
+        let at = in-target (o .0) (o .1) in (
+          o .0,
+          at .0,
+          at .1,
+          table-holds ws (o .0) c (record { known = λ z. k .0 (sym (o .2) ∙ z); charge = o .2 ∙ k .1; steps = o .3 ∙ k .2 }),
+        );
+    least = λ c q v a h x e. less c a v (entry-some r c q .1) (entry-some r c q .2) (reached-words ws v a e .charge) (reached-words ws v a e .steps)
+        (best .least v (target-in v h x));
+  }
+    where
+      less :
+          (c a : Cost) (v : ℕ) → r .charge ≡ c .charge → r .steps ≡ c .steps → chargeAt ws v ≡ a .charge → stepsAt ws v ≡ a .steps
+          → (r .charge < chargeAt ws v) ⊎ ((r .charge ≡ chargeAt ws v) × (r .steps ≤ stepsAt ws v)) → c ≼ a
+      less c a v p q x y (inl k) = inl (omega arith)
+      less c a v p q x y (inr k) = inr (omega arith)
+
+-- The words of entries are two for each node.
+entry-length : (x : Entry) → length (entryWords x) ≡ 2
+entry-length unreached = refl
+entry-length (reached c) = refl
+
+words-length : (d : ℕ → Entry) (n i : ℕ) → length (flatMap (λ v. entryWords (d v)) (countFrom i n)) ≡ 2 * n
+words-length d zero i = refl
+words-length d (suc n) i =
+    let rest = flatMap (λ v. entryWords (d v)) (countFrom (suc i) n) in
+    omega (arith, length-append (entryWords (d i)) rest, entry-length (d i), words-length d n (suc i))
+
+-- And so are those of a search.
+near-length : (g : Graph) (s : ℕ) → length (nearWords g s) ≡ 2 * g .nodes
+unfolding nearWords
+near-length g s = words-length (λ v. near (distance g s) (distance (turned g s) v)) (g .nodes) 0
+
+-- A search does not change the number of the words.
+pub searched-length : (t : Table) (l : ℕ) (ws : List ℕ) → length (searched (automatonOf t) l ws) ≡ length ws
+searched-length t l ws = at (answered (automatonOf t) (length ws)) refl
+  where
+    at : (r : Searched) → answered (automatonOf t) (length ws) ≡ r → length (searched (automatonOf t) l ws) ≡ length ws
+    at (Refused k) e = ap length (sym (searched-refused (automatonOf t) l ws k e))
+    at (Nodes n) e =
+        let a = automatonOf t in
+        let f = answer-fits a (length ws) n e in
+        ap length (sym (searched-nodes a l ws n e))
+        ∙ omega (
+          arith,
+          length-append (nearWords (cornerGraph a l) (startNode a)) (drop (2 * n) ws),
+          near-length (cornerGraph a l) (startNode a),
+          graph-nodes a l,
+          length-drop (2 * n) ws,
+          f .counted,
+          f .room,
+        )
+
+-- The graph of a table: what the theorems on what is near ask of it.
+module _ (t : Table) (ok : IsTable t) (l : ℕ) where
+  -- Its edges lead to nodes.
+  pub goal-closed : Closed (graphOf t l)
+  goal-closed = graph-closed (automatonOf t) l (table-proper t ok)
+
+  -- They weigh no more than a rate or a price may be.
+  pub goal-light : WeightsWithin (graphOf t l) mostPrice
+  goal-light = graph-weights (automatonOf t) l (table-proper t ok) mostPrice (amounts-within t ok)
+
+  -- Chains begin at a node.
+  pub goal-inside : startOf t < graphOf t l .nodes
+  goal-inside = rw (graph-nodes (automatonOf t) l) (start-below t ok)
+
+  -- No path without loops is charged as much as the bound that stands for none.
+  pub goal-small : nodeCount (automatonOf t) ≤ mostNodes → graphOf t l .nodes * mostPrice < anyCharge
+  goal-small few = omega (arith, graph-nodes (automatonOf t) l)
+
+  module _ (ws : List ℕ) (few : nodeCount (automatonOf t) ≤ mostNodes) (room : 2 * nodeCount (automatonOf t) ≤ length ws) where
+    -- The words of a search, with the rest as it was.
+    is-found : searched (automatonOf t) l ws ≡ nearWords (graphOf t l) (startOf t) ++ drop (2 * nodeCount (automatonOf t)) ws
+    is-found =
+        let a = automatonOf t in
+        sym (searched-nodes a l ws (nodeCount a) (sym (answer-nodes a (length ws) (nodeCount a) refl few room)))
+
+    -- The entries are the least costs from the start, as far as they are as near as the goal.
+    pub searched-near : NearCosts (graphOf t l) (startOf t) (table (searched (automatonOf t) l ws))
+    searched-near v h =
+        words-near (graphOf t l) (startOf t) goal-closed goal-inside mostPrice goal-light (goal-small few) (searched (automatonOf t) l ws)
+        (drop (2 * nodeCount (automatonOf t)) ws) is-found v h
+
+    -- The least cost of the goal's nodes is that of the route.
+    pub searched-best :
+        (nodes modes : ℕ) → nodes ≡ nodeCount (automatonOf t) → modes ≡ t .modes → (r : CostHeld)
+        → IsBest nodes l modes (searched (automatonOf t) l ws) r → costEntry r ≡ distance (graphOf t l) (startOf t)
+    searched-best nodes modes counted modes-are r best =
+        near-best (graphOf t l) (startOf t) goal-closed goal-inside mostPrice goal-light (goal-small few) (searched (automatonOf t) l ws) searched-near
+        (costEntry r) (best-target t ok l nodes modes counted modes-are (searched (automatonOf t) l ws) r best)
+
+    -- The two words of a node are those of its entry.
+    searched-words :
+        (v : ℕ) → v < graphOf t l .nodes
+        → wordsAt (searched (automatonOf t) l ws) v ≡ entryWords (near (distance (graphOf t l) (startOf t)) (distance (turned (graphOf t l) (startOf t)) v))
+    unfolding nearWords
+    searched-words v h =
+        let g = graphOf t l in
+        ap (λ (k : List ℕ). wordsAt k v) is-found
+        ∙ words-scattered (λ u. near (distance g (startOf t)) (distance (turned g (startOf t)) u)) (g .nodes) 0
+        (drop (2 * nodeCount (automatonOf t)) ws) v h
+        ∙ ap (λ (u : ℕ). entryWords (near (distance g (startOf t)) (distance (turned g (startOf t)) u))) (zero-add v)
+
+    -- A node that is unreached has infinity in both words.
+    searched-blank : (v : ℕ) → v < graphOf t l .nodes → Blank (searched (automatonOf t) l ws) v
+    searched-blank v h q = at (near (distance (graphOf t l) (startOf t)) (distance (turned (graphOf t l) (startOf t)) v)) refl
+      where
+        at :
+            (x : Entry) → near (distance (graphOf t l) (startOf t)) (distance (turned (graphOf t l) (startOf t)) v) ≡ x
+            → stepsAt (searched (automatonOf t) l ws) v ≡ infinity
+        at unreached e = ap (λ (k : List ℕ). getD k 1 0) (searched-words v h ∙ ap entryWords e)
+        at (reached c) e = absurd (reached-words (searched (automatonOf t) l ws) v c (searched-near v h ∙ e) .known q)
+
+    -- So the goal's cost can be read off them.
+    pub searched-room :
+        (nodes modes : ℕ) → nodes ≡ nodeCount (automatonOf t) → modes ≡ t .modes → BestRoom nodes modes (searched (automatonOf t) l ws)
+    searched-room nodes modes counted modes-are = record {
+      words = record { few = omega (arith, few, counted); room = omega (arith, room, counted, searched-length t l ws) };
+      some = omega (arith, counts t ok, modes-are);
+      shared = rw (counted, modes-are) (ap (λ (k : ℕ). t .modes * k) (share-quotient t ok) ∙ sym (nodes-shared t ok));
+      blank = λ v h. searched-blank v (omega (arith, h, counted, graph-nodes (automatonOf t) l));
+    }

@@ -1,0 +1,35 @@
+// The goal's own cost.
+ghost use Rattle.search.specs.Near.{BestRoom, IsBest};
+use crate::INFINITY;
+
+// A charge and a number of steps.
+pub struct Cost {
+    pub charge: u32,
+    pub steps: u32,
+}
+
+// The least cost of the goal's nodes: both INFINITY if none is reached.
+pub fn best(words: &[u32], nodes: usize, goal: usize, modes: usize) -> Cost
+    requires { ⌜ BestRoom nodes modes (now words) ⌝ }
+    ensures { λ r. ⌜ IsBest nodes goal modes (now (words .entry)) r ⌝ }
+{
+    let mut charge = INFINITY;
+    let mut steps = INFINITY;
+    if goal < modes {
+        let share = nodes / modes;
+        let first = goal * share;
+        for v in first..first + share {
+            let c = words[2 * v];
+            if c < charge {
+                charge = c;
+                steps = words[2 * v + 1];
+            } else if c == charge {
+                let n = words[2 * v + 1];
+                if n < steps {
+                    steps = n;
+                }
+            }
+        }
+    }
+    Cost { charge, steps }
+}

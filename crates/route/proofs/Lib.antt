@@ -3,7 +3,7 @@
 pub mod ChainPrices
 -- One choice of a byte, and bytes that are followed.
 pub mod Choosing
-pub mod Following
+pub mod Retracing
 -- The walk's turns: a step further, and a step back.
 pub mod Walking
 pub mod Returning

@@ -1,9 +1,9 @@
 -- The walk takes a step back where no byte leads on: the place is left for good, and the walk stands at the one before it.
 -- Assumes nothing.
-use mathlib.Core.Path.{_≡_, ap, subst, _∙_}
+use mathlib.Core.Path.{_≡_, ap, _∙_}
 use mathlib.Core.Logic.{_≢_}
 use mathlib.Core.List.{List, [], _∷_, _++_}
-use Prim.Native.Nat.{ℕ, _+_, _*_, _-_, _/_, _≤_, _<_}
+use Prim.Native.Nat.{ℕ, _+_, _*_, _-_, _/_, _%_, _≤_, _<_, max}
 use native.Mathlib.Numerals.{add-one}
 use native.Mathlib.Omega.{arith}
 use lib.ListN.{length, getD, take, drop}
@@ -23,16 +23,15 @@ use Rattle.search.specs.Regions.{automatonOf}
 use Rattle.search.specs.Places.{viewPlace, leftWords, IsLeft}
 use Rattle.search.specs.Laws.Standing.{stands-iff, left-length, left-leaves, left-rest, live, left-live}
 use Rattle.route.specs.declared.Chosen.{Chosen}
-use Rattle.route.specs.declared.Mark.{Mark}
-use Rattle.route.specs.Walk.{WalkAt, Choice, LedTo, IsChain, FollowAt, Follows, MarkAt, Marks}
+use Rattle.route.specs.Walk.{WalkAt, Choice, IsChain, Kept, RetraceAt, Retraces}
 use Rattle.route.proofs.ChainPrices.{take-next, prefix-chain, next-step}
-use Rattle.route.proofs.Following.{Marked}
+use Rattle.route.proofs.Retracing.{kept-fewer}
 use Rattle.route.proofs.Walking.{Walking, proper, chain-finite, taken, depth-few, words-room, leaving, walking-tried, turns, turns-fewer}
 
 module _
     {t : Table} {start : PlaceHeld} {goal moves : ℕ} {ceilings rates invariants sources targets prices guards resets ws₀ rs₀ : List ℕ}
     (w : WalkAt t start goal moves ceilings rates invariants sources targets prices guards resets ws₀ rs₀) {ws rs : List ℕ} {place : PlaceHeld}
-    {depth first : ℕ} {mark prior : Mark} (k : Walking t goal (w .best) ws₀ rs₀ ws rs place depth first mark prior) (r : Chosen)
+    {depth first low : ℕ} {trail : List PlaceHeld} (k : Walking t goal (w .best) ws₀ rs₀ ws rs place depth first low trail) (r : Chosen)
     (choice : Choice place first (depth + 1) moves ceilings rates invariants sources targets prices guards resets ws r)
     (away : place .mode ≢ goal) (b : 66 ≤ r .byte) where
   -- Every byte was tried.
@@ -70,28 +69,26 @@ module _
       bytes-below a (proper w) (o .last) (s .0) (getD rs (depth - 1) 0) (chain-reached a (proper w) (take (depth - 1) rs) (o .last) (o .chained))
       (s .1)
 
-  -- What is asked of the mark, and of following the bytes behind it.
-  pub marking : MarkAt t mark start rs (depth - 1) moves ceilings rates invariants sources targets prices guards resets
-  marking = record { lends = w .lends; begins = w .begins; led = λ _. k .led; is-chain = chain-before }
+  -- What is asked to find the places before again.
+  pub retracing : RetraceAt t start rs (depth - 1) moves ceilings rates invariants sources targets prices guards resets
+  retracing = record { lends = w .lends; begins = w .begins; is-chain = chain-before }
 
-  pub following :
-      (m : Mark) → Marks mark start rs (depth - 1) moves ceilings rates invariants sources targets prices guards resets m
-      → FollowAt t (m .place) rs (m .depth) (depth - 1) moves ceilings rates invariants sources targets prices guards resets
-  following m marks = let o = marks t marking in record { lends = w .lends; led = o .1; is-chain = chain-before; onward = o .0 }
+  -- The place before is among those kept.
+  abbrev pub KeptBefore : ℕ → List PlaceHeld → Type 0
+  KeptBefore low′ trail′ = (low′ ≤ depth - 1) × Kept t rs low′ depth trail′
 
-  -- The step to take back is the last that was made.
-  module _ (e : prior .depth ≡ depth - 1) where
-    -- The place before it is on the way.
-    prior-here : LedTo t rs (prior .depth) (prior .place)
-    prior-here = k .led-prior (omega arith)
+  -- It was all the time,
+  pub kept-still : (low′ : ℕ) (trail′ : List PlaceHeld) → low′ ≡ low → trail′ ≡ trail → low ≤ depth - 1 → KeptBefore low′ trail′
+  kept-still low′ trail′ e f h = rw (e, f) (h, k .kept)
 
-    -- The bytes before the step lead to it.
-    pub led-back : LedTo t rs (depth - 1) (prior .place)
-    led-back = subst (λ (n : ℕ). LedTo t rs n (prior .place)) e prior-here
-
-    -- So it can be the mark.
-    pub marked-back : Marked t rs (depth - 1) prior
-    marked-back = (omega arith, prior-here)
+  -- or it is again.
+  pub kept-again :
+      (low′ : ℕ) (trail′ found : List PlaceHeld) → low′ ≡ max 0 (depth - 1 - 7) → trail′ ≡ found
+      → Retraces start rs (depth - 1) moves ceilings rates invariants sources targets prices guards resets found → KeptBefore low′ trail′
+  kept-again low′ trail′ found e f o =
+      let low-is : low′ ≡ depth - 1 - 7 = omega arith in
+      let all : depth - 1 + 1 ≡ depth = omega (arith, depth-some) in
+      (omega arith, rw (f, low-is) (rw all at (o t retracing)))
 
   -- The corners of the place are nodes with finite prices.
   corners :
@@ -107,11 +104,13 @@ module _
     is-left : ws′ ≡ leftWords (automatonOf t) ws (viewPlace place) depth
     is-left = left t (leaving w k)
 
-    -- The walk goes on from the place before it, behind the byte that led here.
+    -- The walk goes on from the place before it, behind the byte that led here. That place is kept.
     pub walking-back :
-        (m : Mark) → Marked t rs (depth - 1) m → (s : PlaceHeld) → LedTo t rs (depth - 1) s
-        → Walking t goal (w .best) ws₀ rs₀ ws′ rs s (depth - 1) (getD rs (depth - 1) 0 + 1) m prior
-    walking-back m o s l =
+        (low′ : ℕ) (trail′ : List PlaceHeld) (none : PlaceHeld) → KeptBefore low′ trail′
+        → Walking t goal (w .best) ws₀ rs₀ ws′ rs (getD trail′ ((depth - 1) % 8) none) (depth - 1) (getD rs (depth - 1) 0 + 1) low′ trail′
+    walking-back low′ trail′ none (from, kept) =
+        let l = kept .led (depth - 1) none from (omega (arith, depth-some)) in
+        let s = getD trail′ ((depth - 1) % 8) none in
         let a = automatonOf t in
         let p = viewPlace place in
         let leaves = left-leaves a (nodeCount a) ws p depth (words-room w k) corners in
@@ -123,9 +122,8 @@ module _
           walk = rw (is-left, add-one) gone;
           held = l .held;
           below = omega (arith, byte-below);
-          before = o .0;
-          led = o .1;
-          led-prior = λ h. k .led-prior (omega arith);
+          low-within = from;
+          kept = kept-fewer t rs low′ depth (depth - 1) trail′ (omega arith) kept;
           rest = k .rest;
           sized = k .sized;
           words = record {
@@ -133,13 +131,6 @@ module _
             kept = ap length is-left ∙ left-length a ws p depth ∙ k .words .kept;
           };
         }
-
-    -- So it does where the bytes behind a mark are followed to that place.
-    pub walking-followed :
-        (m : Mark) → Marks mark start rs (depth - 1) moves ceilings rates invariants sources targets prices guards resets m → (s : PlaceHeld)
-        → Follows (m .place) rs (m .depth) (depth - 1) moves ceilings rates invariants sources targets prices guards resets s
-        → Walking t goal (w .best) ws₀ rs₀ ws′ rs s (depth - 1) (getD rs (depth - 1) 0 + 1) m prior
-    walking-followed m marks s follows = walking-back m (marks t marking) s (follows t (following m marks))
 
     -- Fewer nodes are live.
     live-fewer : live (length ws₀ / 2) ws′ < live (length ws₀ / 2) ws

@@ -1,15 +1,14 @@
 -- The walk that writes the route: what holds at each of its turns, that it may go a step further, and that it ends with the route.
 -- Assumes nothing.
 use mathlib.Core.Path.{_≡_, refl, sym, ap, subst, _∙_}
-use mathlib.Core.Logic.{_⊎_, inl, inr}
 use mathlib.Core.List.{List, [], _∷_, _++_}
 use mathlib.Core.Option.{some}
-use Prim.Native.Nat.{ℕ, suc, _+_, _*_, _-_, _/_, _≤_, _<_}
+use Prim.Native.Nat.{ℕ, suc, _+_, _*_, _-_, _/_, _%_, _≤_, _<_, max}
 use native.Mathlib.Nat.{mul-suc, mul-le-mul-left}
 use native.Mathlib.Numerals.{add-one}
 use native.Mathlib.Omega.{arith}
-use lib.ListN.{length, take, drop, set, length-append, length-set, take-append-drop}
-use lib.Seq.{length-take-le, take-set-le, take-suc-set, drop-set-lt}
+use lib.ListN.{length, take, drop, set, replicate, length-append, length-set, length-replicate, take-append-drop}
+use lib.Seq.{length-take-le, take-suc-set, drop-set-lt}
 use Rattle.semantics.specs.Automaton.{Proper}
 use Rattle.semantics.specs.Path.{Cost, infinity, table}
 use Rattle.semantics.specs.Node.{nodeCount}
@@ -32,22 +31,19 @@ use Rattle.search.specs.Places.{viewPlace, PlaceAt, WordsAt}
 use Rattle.search.specs.Laws.Chains.{PricesBelow, start-at, prices-room}
 use Rattle.search.specs.Laws.Standing.{stands-iff, live}
 use Rattle.route.specs.declared.Chosen.{Chosen}
-use Rattle.route.specs.declared.Mark.{Mark}
-use Rattle.route.specs.Walk.{RestKept, WalkAt, WalkDone, ChooseAt, Chooses, Choice, LedTo}
+use Rattle.route.specs.Walk.{RestKept, WalkAt, WalkDone, ChooseAt, Chooses, Choice, LedTo, Kept}
 use Rattle.route.proofs.ChainPrices.{chain-prices}
-use Rattle.route.proofs.Following.{Marked}
+use Rattle.route.proofs.Retracing.{kept-more, kept-stored}
 
--- The walk stands after `depth` route bytes and has tried the bytes below `first` there. The mark is a place on the way, and so is the place
--- before the last step, unless more steps than that one were taken back.
+-- The walk stands after `depth` route bytes and has tried the bytes below `first` there. The places before are kept, from the depth `low` on.
 pub record Walking
-    (t : Table) (goal : ℕ) (best : Cost) (ws₀ rs₀ ws rs : List ℕ) (place : PlaceHeld) (depth first : ℕ) (mark prior : Mark) : Type 0 where
+    (t : Table) (goal : ℕ) (best : Cost) (ws₀ rs₀ ws rs : List ℕ) (place : PlaceHeld) (depth first low : ℕ) (trail : List PlaceHeld) : Type 0 where
   pub within : depth ≤ best .steps
   pub walk : Walk (automatonOf t) goal (table ws) (take depth rs) (viewPlace place) first
   pub held : PlaceAt t place
   pub below : first ≤ 66
-  pub before : mark .depth ≤ depth
-  pub led : LedTo t rs (mark .depth) (mark .place)
-  pub led-prior : prior .depth ≤ depth → LedTo t rs (prior .depth) (prior .place)
+  pub low-within : low ≤ depth
+  pub kept : Kept t rs low depth trail
   pub rest : drop (best .steps) rs ≡ drop (best .steps) rs₀
   pub sized : length rs ≡ length rs₀
   pub words : RestKept t ws₀ ws
@@ -103,7 +99,7 @@ module _
 
   -- The walk begins at the start.
   pub walking-begins :
-      Walking t goal (w .best) ws₀ rs₀ ws₀ rs₀ start 0 0 (record { depth = 0; place = start }) (record { depth = 0; place = start })
+      Walking t goal (w .best) ws₀ rs₀ ws₀ rs₀ start 0 0 0 (replicate 8 start)
   unfolding chain follow
   walking-begins =
       let a = automatonOf t in
@@ -115,17 +111,16 @@ module _
         walk = subst (λ (p : Place). Walk a goal (table ws₀) [] p 0) same (walk-begins a proper goal (w .best) (w .is-best) (table ws₀) (w .near));
         held = held;
         below = omega arith;
-        before = omega arith;
-        led = record { chained = ap some same; held = held };
-        led-prior = λ _. record { chained = ap some same; held = held };
+        low-within = omega arith;
+        kept = record { eight = length-replicate 8 start; led = λ i none _ h. absurd (omega arith) };
         rest = refl;
         sized = refl;
         words = record { rest = refl; kept = refl };
       }
 
   module _
-      {ws rs : List ℕ} {place : PlaceHeld} {depth first : ℕ} {mark prior : Mark}
-      (k : Walking t goal (w .best) ws₀ rs₀ ws rs place depth first mark prior) where
+      {ws rs : List ℕ} {place : PlaceHeld} {depth first low : ℕ} {trail : List PlaceHeld}
+      (k : Walking t goal (w .best) ws₀ rs₀ ws rs place depth first low trail) where
     -- As many steps were taken as the walk is deep.
     pub taken : length (take depth rs) ≡ depth
     taken = length-take-le depth rs (omega (arith, k .within, k .sized, w .room))
@@ -160,11 +155,6 @@ module _
     -- The bytes taken lead to the place.
     led-here : LedTo t rs depth place
     led-here = record { chained = k .walk .ends; held = k .held }
-
-    -- So the place can be the mark from now on, and so can the mark that there was.
-    pub marked-on : (m : Mark) → (m ≡ record { depth = depth; place = place }) ⊎ (m ≡ mark) → Marked t rs depth m
-    marked-on m (inl e) = subst (Marked t rs depth) (sym e) (omega arith, led-here)
-    marked-on m (inr e) = subst (Marked t rs depth) (sym e) (k .before, k .led)
 
     -- What is asked for the place to be left.
     pub leaving : WordsAt t place ceilings ws
@@ -233,15 +223,11 @@ module _
         pub turns-further : turns ws₀ rs₀ ws (depth + 1) < turns ws₀ rs₀ ws depth
         turns-further = turns-less ws₀ rs₀ ws depth (omega (arith, depth-below, w .room))
 
-        -- The byte is stored, and what the bytes before it lead to stays.
-        led-stored : (m : Mark) → Marked t rs depth m → LedTo t (set rs depth (r .byte)) (m .depth) (m .place)
-        led-stored m o = record { chained = rw (take-set-le (m .depth) rs depth (r .byte) (o .0)) (o .1 .chained); held = o .1 .held }
-
-        -- The walk goes on from the place that the byte leads to.
+        -- The walk goes on from the place that the byte leads to, and the place at hand is kept.
         pub walking-further :
-            (m : Mark) → Marked t rs depth m
-            → Walking t goal (w .best) ws₀ rs₀ ws (set rs depth (r .byte)) (r .place) (depth + 1) 0 m (record { depth = depth; place = place })
-        walking-further m o =
+            (low′ : ℕ) → low′ ≡ max low (depth - 7)
+            → Walking t goal (w .best) ws₀ rs₀ ws (set rs depth (r .byte)) (r .place) (depth + 1) 0 low′ (set trail (depth % 8) place)
+        walking-further low′ e =
             let there : depth < length rs = omega (arith, depth-below, k .sized, w .room) in
             let front : take depth rs ++ r .byte ∷ [] ≡ take (depth + 1) (set rs depth (r .byte)) =
             sym (ap (λ (n : ℕ). take n (set rs depth (r .byte))) (add-one depth) ∙ take-suc-set rs depth (r .byte) there) in
@@ -250,9 +236,9 @@ module _
               walk = rw front at further;
               held = c .held b;
               below = omega arith;
-              before = omega (arith, o .0);
-              led = led-stored m o;
-              led-prior = λ _. led-stored (record { depth = depth; place = place }) (omega arith, led-here);
+              low-within = omega (arith, k .low-within);
+              kept = kept-stored t rs low′ depth (r .byte) (set trail (depth % 8) place)
+                  (kept-more t rs low low′ depth trail place (k .kept) (omega arith) (omega arith) led-here);
               rest = drop-set-lt (w .best .steps) rs depth (r .byte) depth-below ∙ k .rest;
               sized = length-set rs depth (r .byte) ∙ k .sized;
               words = k .words;

@@ -4,8 +4,8 @@ use mathlib.Core.Path.{_≡_}
 use mathlib.Core.Bool.{true, false}
 use mathlib.Core.List.{List, _++_}
 use mathlib.Core.Option.{some}
-use Prim.Native.Nat.{ℕ, _*_, _≤_, _<_}
-use lib.ListN.{length, take, drop}
+use Prim.Native.Nat.{ℕ, _+_, _*_, _-_, _%_, _≤_, _<_}
+use lib.ListN.{length, getD, take, drop}
 use Rattle.semantics.specs.Node.{nodeCount}
 use Rattle.semantics.specs.Path.{Cost, reached, table}
 use Rattle.semantics.specs.Distance.{distance}
@@ -21,7 +21,6 @@ use Rattle.search.specs.Spread.{Arrays}
 use Rattle.search.specs.Near.{BestRoom}
 use Rattle.search.specs.Places.{packPlace, viewPlace, PlaceAt, StepAt, stands}
 use Rattle.route.specs.declared.Chosen.{Chosen}
-use Rattle.route.specs.declared.Mark.{Mark}
 use Rattle.route.specs.declared.Answer.{Answer}
 use Rattle.route.specs.Plan.{outcome, routed}
 
@@ -119,39 +118,25 @@ pub record IsChain (t : Table) (rs : List ℕ) (n : ℕ) : Type 0 where
   pub there : n ≤ length rs
   pub few : n < mostNodes
 
-pub record FollowAt
-    (t : Table) (s : PlaceHeld) (rs : List ℕ) (first end moves : ℕ) (ceilings rates invariants sources targets prices guards resets : List ℕ) : Type 0 where
-  pub lends : Lends t moves ceilings rates invariants sources targets prices guards resets
-  pub led : LedTo t rs first s
-  pub is-chain : IsChain t rs end
-  pub onward : first ≤ end
+-- The places from the depth `low` on, up to and without the depth `end`, are kept: that of depth i stands at i % 8.
+pub record Kept (t : Table) (rs : List ℕ) (low end : ℕ) (trail : List PlaceHeld) : Type 0 where
+  pub eight : length trail ≡ 8
+  pub led : (i : ℕ) (none : PlaceHeld) → low ≤ i → i < end → LedTo t rs i (getD trail (i % 8) none)
 
-abbrev pub FollowReady :
-    PlaceHeld → List ℕ → ℕ → ℕ → ℕ → List ℕ → List ℕ → List ℕ → List ℕ → List ℕ → List ℕ → List ℕ → List ℕ → Type 0
-FollowReady s rs first end moves ceilings rates invariants sources targets prices guards resets =
-    (t : Table) × FollowAt t s rs first end moves ceilings rates invariants sources targets prices guards resets
-
-abbrev pub Follows :
-    PlaceHeld → List ℕ → ℕ → ℕ → ℕ → List ℕ → List ℕ → List ℕ → List ℕ → List ℕ → List ℕ → List ℕ → List ℕ → PlaceHeld → Type 0
-Follows s rs first end moves ceilings rates invariants sources targets prices guards resets r =
-    (t : Table) → FollowAt t s rs first end moves ceilings rates invariants sources targets prices guards resets → LedTo t rs end r
-
--- A mark is a place to which the route's first bytes lead, if it does not lie beyond the depth.
-pub record MarkAt
-    (t : Table) (m : Mark) (start : PlaceHeld) (rs : List ℕ) (depth moves : ℕ)
-    (ceilings rates invariants sources targets prices guards resets : List ℕ) : Type 0 where
+pub record RetraceAt
+    (t : Table) (start : PlaceHeld) (rs : List ℕ) (depth moves : ℕ) (ceilings rates invariants sources targets prices guards resets : List ℕ) : Type 0 where
   pub lends : Lends t moves ceilings rates invariants sources targets prices guards resets
   pub begins : start ≡ packPlace (begin (automatonOf t))
-  pub led : m .depth ≤ depth → LedTo t rs (m .depth) (m .place)
   pub is-chain : IsChain t rs depth
 
-abbrev pub MarkReady :
-    Mark → PlaceHeld → List ℕ → ℕ → ℕ → List ℕ → List ℕ → List ℕ → List ℕ → List ℕ → List ℕ → List ℕ → List ℕ → Type 0
-MarkReady m start rs depth moves ceilings rates invariants sources targets prices guards resets =
-    (t : Table) × MarkAt t m start rs depth moves ceilings rates invariants sources targets prices guards resets
+abbrev pub RetraceReady :
+    PlaceHeld → List ℕ → ℕ → ℕ → List ℕ → List ℕ → List ℕ → List ℕ → List ℕ → List ℕ → List ℕ → List ℕ → Type 0
+RetraceReady start rs depth moves ceilings rates invariants sources targets prices guards resets =
+    (t : Table) × RetraceAt t start rs depth moves ceilings rates invariants sources targets prices guards resets
 
-abbrev pub Marks :
-    Mark → PlaceHeld → List ℕ → ℕ → ℕ → List ℕ → List ℕ → List ℕ → List ℕ → List ℕ → List ℕ → List ℕ → List ℕ → Mark → Type 0
-Marks m start rs depth moves ceilings rates invariants sources targets prices guards resets r =
-    (t : Table) → MarkAt t m start rs depth moves ceilings rates invariants sources targets prices guards resets
-    → (r .depth ≤ depth) × LedTo t rs (r .depth) (r .place)
+-- The last eight places are kept.
+abbrev pub Retraces :
+    PlaceHeld → List ℕ → ℕ → ℕ → List ℕ → List ℕ → List ℕ → List ℕ → List ℕ → List ℕ → List ℕ → List ℕ → List PlaceHeld → Type 0
+Retraces start rs depth moves ceilings rates invariants sources targets prices guards resets r =
+    (t : Table) → RetraceAt t start rs depth moves ceilings rates invariants sources targets prices guards resets
+    → Kept t rs (depth - 7) (depth + 1) r

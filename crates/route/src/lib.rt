@@ -5,7 +5,8 @@ ghost use Rattle.reader.specs.Held.{IsTable};
 ghost use Rattle.search.specs.Regions.{automatonOf};
 ghost use Rattle.route.specs.Plan.{outcome, plannedTable, planned};
 ghost use Rattle.route.specs.Promise.{KeepsDemand};
-ghost use Rattle.route.specs.Walk.{Found, ReadOff, WalkReady, Walked, ChooseReady, Choice, FollowReady, Follows, MarkReady, Marks};
+ghost use Prim.Native.Nat.{_-_, _≤_, max};
+ghost use Rattle.route.specs.Walk.{Found, ReadOff, WalkReady, Walked, ChooseReady, Choice, RetraceReady, Retraces};
 use reader::Table;
 use reader::Verdict;
 use regions::Region;
@@ -17,6 +18,9 @@ use search::places::Place;
 // "10: the route has more steps than route bytes lent".
 const ROUTE_TOO_LONG: u8 = 10;
 
+// How many places of the way are kept.
+const KEPT: usize = 8;
+
 // A refusal with document 01's number; no route; or a route with its charge and its number of steps.
 pub enum Answer {
     Refused(u8),
@@ -27,12 +31,6 @@ pub enum Answer {
 // A step byte, and the place to which the step leads.
 pub struct Chosen {
     pub byte: u8,
-    pub place: Place,
-}
-
-// The place to which so many steps of the route lead.
-pub struct Mark {
-    pub depth: usize,
     pub place: Place,
 }
 
@@ -139,11 +137,8 @@ fn walk<'a>(
     let mut place = start;
     let mut depth: usize = 0;
     let mut first: u8 = 0;
-    let mut mark = Mark {
-        depth: 0,
-        place: start,
-    };
-    let mut before = mark;
+    let mut low: usize = 0;
+    let mut trail = [start; KEPT];
     while place.mode != goal {
         let chosen = choose(
             words,
@@ -161,10 +156,8 @@ fn walk<'a>(
             resets,
         );
         if chosen.byte < 66 {
-            before = Mark { depth, place };
-            if 16 <= depth - mark.depth {
-                mark = before;
-            }
+            trail[depth % KEPT] = place;
+            low = lowest(low, depth);
             route[depth] = chosen.byte;
             depth += 1;
             place = chosen.place;
@@ -173,14 +166,8 @@ fn walk<'a>(
             place.leave(ceilings, words, depth as u32);
             depth -= 1;
             first = route[depth] + 1;
-            if before.depth == depth {
-                place = before.place;
-                if depth < mark.depth {
-                    mark = before;
-                }
-            } else {
-                mark = mark_before(
-                    mark,
+            if depth < low {
+                trail = retrace(
                     start,
                     route,
                     depth,
@@ -194,24 +181,22 @@ fn walk<'a>(
                     guards,
                     resets,
                 );
-                place = follow(
-                    mark.place,
-                    route,
-                    mark.depth,
-                    depth,
-                    moves,
-                    ceilings,
-                    rates,
-                    invariants,
-                    sources,
-                    targets,
-                    prices,
-                    guards,
-                    resets,
-                );
+                low = lowest(0, depth);
             }
+            place = trail[depth % KEPT];
         }
     }
+}
+
+// The least depth of which the place is kept, when those from `low` on were and that at `depth` is added.
+fn lowest(low: usize, depth: usize) -> usize
+    requires { ⌜ low ≤ depth ⌝ }
+    ensures { λ r. ⌜ r ≡ max low (depth - 7) ⌝ }
+{
+    if depth - low < KEPT {
+        return low;
+    }
+    depth - (KEPT - 1)
 }
 
 // The least byte from `first` on whose step leads to a place that stands after so many steps, or a byte from 66 on if none does.
@@ -265,53 +250,8 @@ fn choose<'a>(
     Chosen { byte, place }
 }
 
-// The place to which the route's bytes from `first` to `end` lead on from a place.
-fn follow<'a>(
-    place: Place,
-    route: &[u8],
-    first: usize,
-    end: usize,
-    moves: usize,
-    ceilings: [u8; Region::MOST_TIMERS],
-    rates: &'a [u16],
-    invariants: &'a [u8],
-    sources: &'a [u8],
-    targets: &'a [u8],
-    prices: &'a [u16],
-    guards: &'a [u8],
-    resets: &'a [u8],
-) -> Place
-    requires { ⌜
-        FollowReady place (now route) first end moves ceilings (now rates) (now invariants) (now sources) (now targets) (now prices)
-        (now guards) (now resets)
-        ⌝ }
-    ensures { λ r. ⌜
-        Follows place (now (route .entry)) first end moves ceilings (now (rates .entry)) (now (invariants .entry)) (now (sources .entry))
-        (now (targets .entry)) (now (prices .entry)) (now (guards .entry)) (now (resets .entry)) r
-        ⌝ }
-{
-    let mut at = place;
-    for i in first..end {
-        let stepped = at.step(
-            route[i],
-            moves,
-            ceilings,
-            rates,
-            invariants,
-            sources,
-            targets,
-            prices,
-            guards,
-            resets,
-        );
-        at = stepped.place;
-    }
-    at
-}
-
-// A mark at most 8 steps before `depth`: the one there was, if it is, and otherwise one 4 steps before. So a step is taken back in few steps.
-fn mark_before<'a>(
-    mark: Mark,
+// The places to which the route's first bytes lead, up to `depth` of them: that of the first i bytes stands at i % 8, if it is among the last eight.
+fn retrace<'a>(
     start: Place,
     route: &[u8],
     depth: usize,
@@ -324,44 +264,33 @@ fn mark_before<'a>(
     prices: &'a [u16],
     guards: &'a [u8],
     resets: &'a [u8],
-) -> Mark
+) -> [Place; KEPT]
     requires { ⌜
-        MarkReady mark start (now route) depth moves ceilings (now rates) (now invariants) (now sources) (now targets) (now prices)
-        (now guards) (now resets)
+        RetraceReady start (now route) depth moves ceilings (now rates) (now invariants) (now sources) (now targets) (now prices) (now guards)
+        (now resets)
         ⌝ }
     ensures { λ r. ⌜
-        Marks mark start (now (route .entry)) depth moves ceilings (now (rates .entry)) (now (invariants .entry)) (now (sources .entry))
+        Retraces start (now (route .entry)) depth moves ceilings (now (rates .entry)) (now (invariants .entry)) (now (sources .entry))
         (now (targets .entry)) (now (prices .entry)) (now (guards .entry)) (now (resets .entry)) r
         ⌝ }
 {
-    let from = if depth < mark.depth {
-        Mark {
-            depth: 0,
-            place: start,
-        }
-    } else {
-        mark
-    };
-    if depth - from.depth <= 8 {
-        return from;
+    let mut trail = [start; KEPT];
+    let mut place = start;
+    for i in 0..depth {
+        let stepped = place.step(
+            route[i],
+            moves,
+            ceilings,
+            rates,
+            invariants,
+            sources,
+            targets,
+            prices,
+            guards,
+            resets,
+        );
+        place = stepped.place;
+        trail[(i + 1) % KEPT] = place;
     }
-    let place = follow(
-        from.place,
-        route,
-        from.depth,
-        depth - 4,
-        moves,
-        ceilings,
-        rates,
-        invariants,
-        sources,
-        targets,
-        prices,
-        guards,
-        resets,
-    );
-    Mark {
-        depth: depth - 4,
-        place,
-    }
+    trail
 }

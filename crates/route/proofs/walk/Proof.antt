@@ -1,23 +1,22 @@
 -- `route::walk` meets its contract. The loop goes a step further or takes one back, and has written the route where it ends.
 -- Assumes nothing.
-use mathlib.Core.Logic.{⊎-elim, inl, inr}
+use mathlib.Core.Path.{_∙_}
+use mathlib.Core.Logic.{⊎-elim}
 use native.Mathlib.Omega.{arith}
 use Rattle.reader.specs.declared.Table.{Table}
 use Rattle.route.specs.Walk.{WalkAt}
-use Rattle.route.proofs.Walking.{Walking, walking-begins, depth-few, choosing, leaving, walking-ends, depth-below}
-use Rattle.route.proofs.Walking.{marked-on, walking-further, turns, turns-further}
-use Rattle.route.proofs.Returning.{depth-some, there-before, byte-below, marking, following, led-back, marked-back}
-use Rattle.route.proofs.Returning.{walking-back, walking-followed, turns-back}
+use Rattle.route.proofs.Walking.{Walking, walking-begins, depth-few, choosing, leaving, walking-ends, depth-below, walking-further, turns, turns-further}
+use Rattle.route.proofs.Returning.{depth-some, there-before, byte-below, retracing, kept-still, kept-again, walking-back, turns-back}
 use Rattle.route.proofs.walk.Statement.{statement}
 use Rattle.route.proofs.walk.Tie as tie
 
 abbrev Inv-loop : tie.InvT-loop
-Inv-loop words₀ route₀ start goal moves ceilings rates invariants sources targets prices guards resets place₀ depth₀ first₀ mark₀ prior₀ words route place depth first mark prior =
+Inv-loop words₀ route₀ start goal moves ceilings rates invariants sources targets prices guards resets place₀ depth₀ first₀ low₀ trail₀ words route place depth first low trail =
     (t : Table) (w : WalkAt t start goal moves ceilings rates invariants sources targets prices guards resets words₀ route₀)
-    → Walking t goal (w .best) words₀ route₀ words route place depth first mark prior
+    → Walking t goal (w .best) words₀ route₀ words route place depth first low trail
 
 abbrev μ-loop : tie.MeasureT-loop
-μ-loop words₀ route₀ start goal moves ceilings rates invariants sources targets prices guards resets place₀ depth₀ first₀ mark₀ prior₀ words route place depth first mark prior =
+μ-loop words₀ route₀ start goal moves ceilings rates invariants sources targets prices guards resets place₀ depth₀ first₀ low₀ trail₀ words route place depth first low trail =
     turns words₀ route₀ words depth
 
 -- Where the function begins, from the loop's head.
@@ -49,15 +48,21 @@ choose-requires c κs =
     let p = start-of loop .pre in
     (p .0, choosing (p .1) (loop .loop .inv (p .0) (p .1)))
 
-sub-if3 : tie.Need-sub-if3 Inv-loop μ-loop
-sub-if3 c =
-    let loop = loop-of (c .before .before .before .before) in
+mul-trail : tie.Need-mul-trail Inv-loop μ-loop
+mul-trail c = omega arith
+
+array-set-from-trail : tie.Need-array-set-from-trail Inv-loop μ-loop
+array-set-from-trail c = omega arith
+
+lowest-requires : tie.Need-lowest-requires Inv-loop μ-loop
+lowest-requires c κs =
+    let loop = loop-of (c .before .before .before) in
     let p = start-of loop .pre in
-    loop .loop .inv (p .0) (p .1) .before
+    loop .loop .inv (p .0) (p .1) .low-within
 
 slice-write-route : tie.Need-slice-write-route Inv-loop μ-loop
 slice-write-route c =
-    let then = c .before .before in
+    let then = c .before in
     let q = then .before .before in
     let loop = loop-of (q .before) in
     let p = start-of loop .pre in
@@ -66,13 +71,13 @@ slice-write-route c =
 
 add-depth : tie.Need-add-depth Inv-loop μ-loop
 add-depth c =
-    let loop = loop-of (c .before .before .before .before .before) in
+    let loop = loop-of (c .before .before .before .before) in
     let p = start-of loop .pre in
     omega (arith, depth-few (p .1) (loop .loop .inv (p .0) (p .1)))
 
 loop-less : tie.Need-loop-less Inv-loop μ-loop
 loop-less c =
-    let then = c .before .before .before in
+    let then = c .before .before in
     let q = then .before .before in
     let loop = loop-of (q .before) in
     let p = start-of loop .pre in
@@ -80,12 +85,10 @@ loop-less c =
 
 loop-again : tie.Need-loop-again Inv-loop μ-loop
 loop-again c = λ t w.
-    let joined = c .before in
-    let then = joined .before .before in
+    let then = c .before .before in
     let q = then .before .before in
-    let k = loop-of (q .before) .loop .inv t w in
-    walking-further w k (q .choose .result) (q .choose .ensures) (then .if2 .taken) (joined .if3 .mark)
-    (marked-on w k (joined .if3 .mark) (⊎-elim (λ x. inl (x .1)) (λ x. inr (x .1)) (joined .if3 .came)))
+    walking-further w (loop-of (q .before) .loop .inv t w) (q .choose .result) (q .choose .ensures) (then .if2 .taken) (c .before .lowest .result)
+    (c .before .lowest .ensures)
 
 cast-leave : tie.Need-cast-leave Inv-loop μ-loop
 cast-leave c =
@@ -126,9 +129,28 @@ add-first c =
       byte-below (p .1) (loop .loop .inv (p .0) (p .1)) (q .choose .result) (q .choose .ensures) (q .before .before .if1 .taken) (else .if2 .left),
     )
 
+retrace-requires : tie.Need-retrace-requires Inv-loop μ-loop
+retrace-requires c κs =
+    let else = c .before .before .before .before .before .before .before in
+    let q = else .before .before in
+    let loop = loop-of (q .before) in
+    let p = start-of loop .pre in (
+      p .0,
+      retracing (p .1) (loop .loop .inv (p .0) (p .1)) (q .choose .result) (q .choose .ensures) (q .before .before .if1 .taken) (else .if2 .left),
+    )
+
+lowest-requires-2 : tie.Need-lowest-requires-2 Inv-loop μ-loop
+lowest-requires-2 c κs = omega arith
+
+mul-place : tie.Need-mul-place Inv-loop μ-loop
+mul-place c = omega arith
+
+array-copy-out-place : tie.Need-array-copy-out-place Inv-loop μ-loop
+array-copy-out-place c = omega arith
+
 loop-less-2 : tie.Need-loop-less-2 Inv-loop μ-loop
 loop-less-2 c =
-    let left = c .before .before .before .before .before .before .before .before in
+    let left = c .before .before .before .before .before in
     let else = left .before .before in
     let q = else .before .before in
     let loop = loop-of (q .before) in
@@ -138,80 +160,23 @@ loop-less-2 c =
 
 loop-again-2 : tie.Need-loop-again-2 Inv-loop μ-loop
 loop-again-2 c = λ t w.
-    let back = c .before .before .before in
-    let left = back .before .before .before .before .before in
+    let joined = c .before in
+    let left = joined .before .before .before .before in
     let else = left .before .before in
     let q = else .before .before in
     let k = loop-of (q .before) .loop .inv t w in
     let away = q .before .before .if1 .taken in
-    let led = led-back w k (q .choose .result) (q .choose .ensures) away (else .if2 .left) (back .if4 .taken) in
-    walking-back w k (q .choose .result) (q .choose .ensures) away (else .if2 .left) (left .leave .last .1 .1 .0) (left .leave .ensures) _
-    (marked-back w k (q .choose .result) (q .choose .ensures) away (else .if2 .left) (back .if4 .taken)) _ led
-
-loop-less-3 : tie.Need-loop-less-3 Inv-loop μ-loop
-loop-less-3 c =
-    let left = c .before .before .before .before .before .before .before .before in
-    let else = left .before .before in
-    let q = else .before .before in
-    let loop = loop-of (q .before) in
-    let p = start-of loop .pre in
-    turns-back (p .1) (loop .loop .inv (p .0) (p .1)) (q .choose .result) (q .choose .ensures) (q .before .before .if1 .taken) (else .if2 .left)
-    (left .leave .last .1 .1 .0) (left .leave .ensures)
-
-loop-again-3 : tie.Need-loop-again-3 Inv-loop μ-loop
-loop-again-3 c = λ t w.
-    let back = c .before .before .before in
-    let left = back .before .before .before .before .before in
-    let else = left .before .before in
-    let q = else .before .before in
-    let k = loop-of (q .before) .loop .inv t w in
-    let away = q .before .before .if1 .taken in
-    let led = led-back w k (q .choose .result) (q .choose .ensures) away (else .if2 .left) (back .if4 .taken) in
-    walking-back w k (q .choose .result) (q .choose .ensures) away (else .if2 .left) (left .leave .last .1 .1 .0) (left .leave .ensures) _
-    (c .if5 .left, k .led) _ led
-
-mark-before-requires : tie.Need-mark-before-requires Inv-loop μ-loop
-mark-before-requires c κs =
-    let else = c .before .before .before .before .before .before .before .before in
-    let q = else .before .before in
-    let loop = loop-of (q .before) in
-    let p = start-of loop .pre in (
-      p .0,
-      marking (p .1) (loop .loop .inv (p .0) (p .1)) (q .choose .result) (q .choose .ensures) (q .before .before .if1 .taken) (else .if2 .left),
-    )
-
-follow-requires : tie.Need-follow-requires Inv-loop μ-loop
-follow-requires c κs =
-    let m = c .before in
-    let else = m .before .before .before .before .before .before .before .before .before in
-    let q = else .before .before in
-    let loop = loop-of (q .before) in
-    let p = start-of loop .pre in (
-      p .0,
-      following (p .1) (loop .loop .inv (p .0) (p .1)) (q .choose .result) (q .choose .ensures) (q .before .before .if1 .taken) (else .if2 .left)
-          (m .mark-before .result) (m .mark-before .ensures),
-    )
-
-loop-less-4 : tie.Need-loop-less-4 Inv-loop μ-loop
-loop-less-4 c =
-    let m = c .before .before in
-    let left = m .before .before .before .before .before .before .before in
-    let else = left .before .before in
-    let q = else .before .before in
-    let loop = loop-of (q .before) in
-    let p = start-of loop .pre in
-    turns-back (p .1) (loop .loop .inv (p .0) (p .1)) (q .choose .result) (q .choose .ensures) (q .before .before .if1 .taken) (else .if2 .left)
-    (left .leave .last .1 .1 .0) (left .leave .ensures)
-
-loop-again-4 : tie.Need-loop-again-4 Inv-loop μ-loop
-loop-again-4 c = λ t w.
-    let m = c .before .before in
-    let left = m .before .before .before .before .before .before .before in
-    let else = left .before .before in
-    let q = else .before .before in
-    let loop = loop-of (q .before) in
-    walking-followed w (loop .loop .inv t w) (q .choose .result) (q .choose .ensures) (q .before .before .if1 .taken) (else .if2 .left)
-    (left .leave .last .1 .1 .0) (left .leave .ensures) (m .mark-before .result) (m .mark-before .ensures) (c .follow .result) (c .follow .ensures)
+    let low = joined .if3 .low in
+    let trail = joined .if3 .trail in
+    let kept =
+    ⊎-elim
+    (λ x.
+    kept-again w k (q .choose .result) (q .choose .ensures) away (else .if2 .left) low trail (x .2 .result) (x .4 ∙ x .3 .ensures) (x .5)
+    (x .2 .ensures))
+    (λ x. kept-still w k (q .choose .result) (q .choose .ensures) away (else .if2 .left) low trail (x .1) (x .2) (x .0 .left))
+    (joined .if3 .came) in
+    walking-back w k (q .choose .result) (q .choose .ensures) away (else .if2 .left) (left .leave .last .1 .1 .0) (left .leave .ensures) low trail _
+    kept
 
 same-length : tie.Need-same-length Inv-loop μ-loop
 same-length c =
@@ -238,7 +203,9 @@ walk-spec =
     cast-choose
     add-choose
     choose-requires
-    sub-if3
+    mul-trail
+    array-set-from-trail
+    lowest-requires
     slice-write-route
     add-depth
     loop-less
@@ -248,14 +215,12 @@ walk-spec =
     sub-depth
     slice-read-first
     add-first
+    retrace-requires
+    lowest-requires-2
+    mul-place
+    array-copy-out-place
     loop-less-2
     loop-again-2
-    loop-less-3
-    loop-again-3
-    mark-before-requires
-    follow-requires
-    loop-less-4
-    loop-again-4
     same-length
     same-length-2
     returns)

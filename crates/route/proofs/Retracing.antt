@@ -1,12 +1,13 @@
--- Following the route's bytes from a place that its first bytes lead to, and marks before a depth.
+-- Following the route's bytes from the start, and the places on the way that are kept.
 -- Assumes nothing.
 use mathlib.Core.Path.{_≡_, sym, ap, subst, _∙_}
 use mathlib.Core.List.{List}
 use mathlib.Core.Option.{some}
-use Prim.Native.Nat.{ℕ, _+_, _*_, _≤_, _<_}
+use native.Mathlib.Decide.{decLt}
+use Prim.Native.Nat.{ℕ, _+_, _*_, _%_, _≤_, _<_}
 use native.Mathlib.Omega.{arith}
-use lib.ListN.{length, getD, take}
-use lib.Seq.{length-take-le}
+use lib.ListN.{length, getD, take, set, replicate, length-replicate, length-set, getD-replicate}
+use lib.Seq.{length-take-le, take-set-le, getD-set-same, getD-set-other}
 use Rattle.semantics.specs.Chain.{step, follow, begin, chain}
 use Rattle.reader.specs.declared.Table.{Table}
 use Rattle.reader.specs.Fields.{mostPrice}
@@ -17,9 +18,8 @@ use Rattle.search.specs.declared.places.Stepped.{Stepped}
 use Rattle.search.specs.Regions.{automatonOf}
 use Rattle.search.specs.Places.{packPlace, viewPlace, packStep, StepAt}
 use Rattle.search.specs.Laws.Chains.{PricesBelow, start-at, step-at, prices-room}
-use Rattle.route.specs.declared.Mark.{Mark}
-use Rattle.route.specs.Walk.{Lends, LedTo, IsChain, FollowAt, MarkAt}
-use Rattle.route.proofs.ChainPrices.{prefix-chain, next-step, chain-prices}
+use Rattle.route.specs.Walk.{Lends, LedTo, IsChain, Kept}
+use Rattle.route.proofs.ChainPrices.{next-step, chain-prices}
 use Rattle.route.proofs.Choosing.{leads-to}
 
 module _ {t : Table} {moves : ℕ} {ceilings rates invariants sources targets prices guards resets : List ℕ}
@@ -42,12 +42,6 @@ module _ {t : Table} {moves : ℕ} {ceilings rates invariants sources targets pr
         room = prices-room t h s (l .held) (i * mostPrice) counted (omega arith);
       }
 
--- Fewer bytes of a chain are a chain.
-pub chain-shorter : (t : Table) (rs : List ℕ) (m n : ℕ) → m ≤ n → IsChain t rs n → IsChain t rs m
-chain-shorter t rs m n b k =
-    let z = prefix-chain (automatonOf t) rs m n (k .last) b (k .chained) in
-    record { last = z .0; chained = z .1; there = omega (arith, k .there); few = omega (arith, k .few) }
-
 module _ (t : Table) (h : IsTable t) (rs : List ℕ) where
   -- No byte leads to the place at which chains begin.
   pub led-none : (s : PlaceHeld) → s ≡ packPlace (begin (automatonOf t)) → LedTo t rs 0 s
@@ -67,29 +61,43 @@ module _ (t : Table) (h : IsTable t) (rs : List ℕ) where
       let same = sym (leads-to t h s (l .held) (getD rs i 0) r e (next .0) (next .1)) in
       subst (LedTo t rs (i + 1)) same (record { chained = next .2 ∙ ap some (sym (there .1)); held = there .0 })
 
--- A mark that does not lie beyond the depth.
-abbrev pub Marked : Table → List ℕ → ℕ → Mark → Type 0
-Marked t rs depth m = (m .depth ≤ depth) × LedTo t rs (m .depth) (m .place)
+module _ (t : Table) (rs : List ℕ) where
+  -- At the start nothing but the start is kept.
+  pub kept-first : (s : PlaceHeld) → LedTo t rs 0 s → Kept t rs 0 1 (replicate 8 s)
+  kept-first s l = record {
+    eight = length-replicate 8 s;
+    led = λ i none _ h. let e : i ≡ 0 = omega arith in rw (e, getD-replicate 8 0 s none (omega arith)) l;
+  }
 
-module _
-    {t : Table} {m : Mark} {start : PlaceHeld} {rs : List ℕ} {depth moves : ℕ}
-    {ceilings rates invariants sources targets prices guards resets : List ℕ}
-    (k : MarkAt t m start rs depth moves ceilings rates invariants sources targets prices guards resets)
-  where
-    -- The start is one, and the mark that there was, if it lies before.
-    pub mark-start : (from : Mark) → from ≡ record { depth = 0; place = start } → Marked t rs depth from
-    mark-start from e = subst (Marked t rs depth) (sym e) (omega arith, led-none t (k .lends .is-table) rs start (k .begins))
+  -- One place more is kept, in the place of one that is not wanted any more.
+  pub kept-more :
+      (low low′ end : ℕ) (trail : List PlaceHeld) (s : PlaceHeld) → Kept t rs low end trail → low ≤ low′ → end < low′ + 8 → LedTo t rs end s
+      → Kept t rs low′ (end + 1) (set trail (end % 8) s)
+  kept-more low low′ end trail s kept on few l = record {
+    eight = length-set trail (end % 8) s ∙ kept .eight;
+    led = λ i none from to. at i none from to (decLt i end);
+  }
+    where
+      at :
+          (i : ℕ) (none : PlaceHeld) → low′ ≤ i → i < end + 1 → Dec (i < end)
+          → LedTo t rs i (getD (set trail (end % 8) s) (i % 8) none)
+      at i none from to (yes h) =
+          let apart : (i % 8 ≡ end % 8 → ⊥) = λ e. omega arith in
+          rw (getD-set-other trail (end % 8) (i % 8) s none apart) (kept .led i none (omega arith) h)
+      at i none from to (no h) =
+          let e : i ≡ end = omega arith in
+          rw (e, getD-set-same trail (end % 8) s none (omega (arith, kept .eight))) l
 
-    pub mark-kept : (from : Mark) → m .depth ≤ depth → from ≡ m → Marked t rs depth from
-    mark-kept from b e = subst (Marked t rs depth) (sym e) (b, k .led b)
+  -- What the bytes before a depth lead to stays when a byte is stored there.
+  pub kept-stored :
+      (low depth byte : ℕ) (trail : List PlaceHeld) → Kept t rs low (depth + 1) trail → Kept t (set rs depth byte) low (depth + 1) trail
+  kept-stored low depth byte trail kept = record {
+    eight = kept .eight;
+    led = λ i none from to.
+        let l = kept .led i none from to in
+        record { chained = rw (take-set-le i rs depth byte (omega arith)) (l .chained); held = l .held };
+  }
 
-    -- What is asked to go on from it.
-    pub mark-follow :
-        (from : Mark) (end : ℕ) → Marked t rs depth from → from .depth ≤ end → end ≤ depth
-        → FollowAt t (from .place) rs (from .depth) end moves ceilings rates invariants sources targets prices guards resets
-    mark-follow from end l b c = record {
-      lends = k .lends;
-      led = l .1;
-      is-chain = chain-shorter t rs end depth c (k .is-chain);
-      onward = b;
-    }
+  -- Fewer are kept.
+  pub kept-fewer : (low end end′ : ℕ) (trail : List PlaceHeld) → end′ ≤ end → Kept t rs low end trail → Kept t rs low end′ trail
+  kept-fewer low end end′ trail h kept = record { eight = kept .eight; led = λ i none from to. kept .led i none from (omega arith) }

@@ -1,43 +1,60 @@
 -- Reset of the timers that a byte names, one timer after another.
 -- Assumes nothing.
 use mathlib.Core.Path.{_≡_, refl, ap, _∙_, sym}
-use mathlib.Core.Bool.{Bool, true, false, cond}
+use mathlib.Core.Bool.{cond}
 use mathlib.Core.List.{List, [], _∷_}
-use Prim.Native.Nat.{ℕ, _/_, _%_, _^_}
+use Prim.Native.Nat.{ℕ, zero, suc, _+_, _/_, _%_, _^_, _<_, _≤_}
+use native.Mathlib.Omega.{arith}
 use borrow.Author.Tests.{eq-eqb, ne-eqb}
 use lib.Dec.{eqb}
-use Rattle.semantics.specs.Region.{PricedRegion, resetAll}
+use lib.ListN.{drop}
+use Rattle.semantics.specs.Region.{PricedRegion, reset, resetAll}
 use Rattle.reader.specs.Meaning.{named, namedTimers}
 use Rattle.regions.specs.declared.Region.{Region}
-use Rattle.regions.specs.Held.{pack, view, Valid}
-use Rattle.regions.specs.Laws.Chain.{resetAll-gives}
+use Rattle.regions.specs.Held.{mostTimers, pack, view, Valid}
+use Rattle.regions.specs.Laws.Chain.{reset-gives}
 
--- Whether a byte names a timer.
-pub named-yes : (byte x : ℕ) → byte / 2 ^ x % 2 ≡ 1 → named byte (x ∷ []) ≡ x ∷ []
-named-yes byte x e = rw (eq-eqb _ 1 e)
+-- The timers from x on that a byte names.
+abbrev namedFrom : ℕ → ℕ → List ℕ
+namedFrom byte x = named byte (drop x (0 ∷ 1 ∷ 2 ∷ []))
 
-pub named-no : (byte x : ℕ) → (byte / 2 ^ x % 2 ≡ 1 → ⊥) → named byte (x ∷ []) ≡ []
-named-no byte x n = rw (ne-eqb _ 1 n)
+from-next :
+    (byte x : ℕ) → x < mostTimers
+    → namedFrom byte x ≡ cond (eqb (byte / 2 ^ x % 2) 1) (x ∷ namedFrom byte (x + 1)) (namedFrom byte (x + 1))
+from-next byte zero h = refl
+from-next byte (suc zero) h = refl
+from-next byte (suc (suc zero)) h = refl
+from-next byte (suc (suc (suc x))) h = absurd (omega arith)
 
--- The timers that a byte names, the first of them reset before the others.
-resets-split :
-    (byte x : ℕ) (xs : List ℕ) (r : PricedRegion)
-    → resetAll (named byte (x ∷ xs)) r ≡ resetAll (named byte xs) (resetAll (named byte (x ∷ [])) r)
-unfolding resetAll
-resets-split byte x xs r = go (eqb (byte / 2 ^ x % 2) 1)
-  where
-    go : (b : Bool) → resetAll (cond b (x ∷ named byte xs) (named byte xs)) r ≡ resetAll (named byte xs) (resetAll (cond b (x ∷ []) []) r)
-    go true = refl
-    go false = refl
+-- s is r with the named timers below x reset: those from x on, reset of s, give what all give of r.
+pub record ResetBelow (byte : ℕ) (r : PricedRegion) (x : ℕ) (s : Region) : Type 0 where
+  pub few : x ≤ mostTimers
+  pub valid : Valid s
+  pub gives : resetAll (namedFrom byte x) (view s) ≡ resetAll (namedTimers byte) r
 
--- The three timers that a byte can name, one after another.
-pub resets-is :
-    (byte : ℕ) (s a b t : Region) → Valid s → a ≡ pack (resetAll (named byte (0 ∷ [])) (view s))
-    → b ≡ pack (resetAll (named byte (1 ∷ [])) (view a)) → t ≡ pack (resetAll (named byte (2 ∷ [])) (view b))
-    → t ≡ pack (resetAll (namedTimers byte) (view s))
-resets-is byte s a b t v ea eb et =
-    let first = resetAll-gives s a v (named byte (0 ∷ [])) ea in
-    let second = resetAll-gives a b (first .valid) (named byte (1 ∷ [])) eb in
-    et
-    ∙ ap (λ (r : PricedRegion). pack (resetAll (named byte (2 ∷ [])) r)) (second .seen ∙ ap (resetAll (named byte (1 ∷ []))) (first .seen))
-    ∙ ap pack (sym (resets-split byte 0 (1 ∷ 2 ∷ []) (view s) ∙ resets-split byte 1 (2 ∷ []) (resetAll (named byte (0 ∷ [])) (view s))))
+module _ (byte : ℕ) (r : PricedRegion) (x : ℕ) (s : Region) (h : ResetBelow byte r x s) where
+  -- The byte names the timer, and it is reset.
+  pub named-reset : (t : Region) → x < mostTimers → byte / 2 ^ x % 2 ≡ 1 → t ≡ pack (reset x (view s)) → ResetBelow byte r (x + 1) t
+  unfolding resetAll
+  named-reset t inside e is =
+      let g = reset-gives s t (h .valid) x is in
+      let next = rw (eq-eqb _ 1 e) at (from-next byte x inside) in
+      record {
+        few = omega arith;
+        valid = g .valid;
+        gives = ap (resetAll (namedFrom byte (x + 1))) (g .seen) ∙ ap (λ (xs : List ℕ). resetAll xs (view s)) (sym next) ∙ h .gives;
+      }
+
+  -- The byte does not name it, and the region stays.
+  pub unnamed-kept : (t : Region) → x < mostTimers → (byte / 2 ^ x % 2 ≡ 1 → ⊥) → t ≡ s → ResetBelow byte r (x + 1) t
+  unnamed-kept t inside n is =
+      let next = rw (ne-eqb _ 1 n) at (from-next byte x inside) in
+      rw is
+      (record { few = omega arith; valid = h .valid; gives = ap (λ (xs : List ℕ). resetAll xs (view s)) (sym next) ∙ h .gives })
+
+  -- No timer is left.
+  pub all-reset : mostTimers ≤ x → s ≡ pack (resetAll (namedTimers byte) r)
+  unfolding resetAll
+  all-reset past =
+      let e : x ≡ mostTimers = omega (arith, h .few) in
+      h .valid .held ∙ ap pack (ap (λ (k : ℕ). resetAll (namedFrom byte k) (view s)) (sym e) ∙ h .gives)

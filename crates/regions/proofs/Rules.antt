@@ -3,7 +3,7 @@
 use mathlib.Core.Path.{_≡_, refl, ap, _∙_, sym}
 use mathlib.Core.Bool.{Bool, true, _&&_}
 use mathlib.Core.List.{List, [], _∷_}
-use Prim.Native.Nat.{ℕ, zero, suc, _+_, _-_, _*_, _/_, _%_, _<_, _≤_, max}
+use Prim.Native.Nat.{ℕ, zero, suc, _+_, _-_, _*_, _/_, _%_, _<_, _≤_, _^_, max}
 use native.Mathlib.Omega.{arith}
 use borrow.Author.Tests.{eqb-true}
 use lib.Dec.{eqb}
@@ -17,6 +17,7 @@ use Rattle.semantics.specs.Corners.Number.{sameList-eq}
 use Rattle.regions.specs.declared.Region.{Region}
 use Rattle.regions.specs.declared.CornerAt.{CornerAt}
 use Rattle.regions.specs.Held.{pad, highest, packCorner}
+use Rattle.regions.specs.Tables.{firstRows, cornerRows}
 use Rattle.regions.specs.Laws.Fields.{Holds, group-at}
 use Rattle.regions.specs.Laws.Corners.{corner-below, corner-again}
 
@@ -28,28 +29,37 @@ up-to-three P a b c d (suc (suc zero)) h = c
 up-to-three P a b c d (suc (suc (suc zero))) h = d
 up-to-three P a b c d (suc (suc (suc (suc n)))) h = absurd (omega arith)
 
+-- The number is none of those below k, as the last arm of a `match` knows it.
+abbrev NoneBelow : ℕ → ℕ → Type 0
+NoneBelow n zero = Unit {0}
+NoneBelow n (suc k) = NoneBelow n k × (n ≡ k → ⊥)
+
+none-below : (n k : ℕ) → NoneBelow n k → k ≤ n
+none-below n zero h = omega arith
+none-below n (suc k) h = omega (arith, none-below n k (h .0), h .1)
+
+pub last-row : (n k : ℕ) → n < suc k → NoneBelow n k → n ≡ k
+last-row n k few h = omega (arith, none-below n k h)
+
 -- The table CORNERS follows the rule, which holds for any number of timers.
 pub counts-right : (n : ℕ) → n ≤ 3 → getD (1 ∷ 3 ∷ 13 ∷ 75 ∷ []) n 0 ≡ cornerCount n 1
 counts-right = up-to-three (λ n. getD (1 ∷ 3 ∷ 13 ∷ 75 ∷ []) n 0 ≡ cornerCount n 1) refl refl refl refl
 
 -- An entry of a table in rows.
-abbrev entry : List (List ℕ) → ℕ → ℕ → ℕ
-entry t row column = getD (getD t row []) column 0
+abbrev entry : List ℕ → ℕ → ℕ → ℕ
+entry t row column = getD t row 0 / 2 ^ (8 * column) % 256
 
--- The code's table FIRST.
-abbrev firsts : List (List ℕ)
-firsts =
-    (0 ∷ 0 ∷ 0 ∷ 0 ∷ 1 ∷ 0 ∷ 0 ∷ 0 ∷ 0 ∷ 0 ∷ 0 ∷ 0 ∷ 0 ∷ 0 ∷ 0 ∷ 0 ∷ [])
-    ∷ (0 ∷ 1 ∷ 0 ∷ 0 ∷ 3 ∷ 5 ∷ 7 ∷ 0 ∷ 0 ∷ 10 ∷ 0 ∷ 0 ∷ 0 ∷ 0 ∷ 0 ∷ 0 ∷ [])
-    ∷ (0 ∷ 18 ∷ 0 ∷ 0 ∷ 3 ∷ 20 ∷ 25 ∷ 0 ∷ 0 ∷ 28 ∷ 0 ∷ 0 ∷ 0 ∷ 0 ∷ 0 ∷ 0 ∷ [])
-    ∷ (5 ∷ 1 ∷ 22 ∷ 0 ∷ 7 ∷ 31 ∷ 57 ∷ 0 ∷ 15 ∷ 36 ∷ 60 ∷ 67 ∷ 0 ∷ 0 ∷ 71 ∷ 0 ∷ [])
-    ∷ (0 ∷ 9 ∷ 0 ∷ 0 ∷ 12 ∷ 39 ∷ 33 ∷ 63 ∷ 0 ∷ 42 ∷ 0 ∷ 0 ∷ 0 ∷ 53 ∷ 0 ∷ 0 ∷ [])
-    ∷ (0 ∷ 0 ∷ 0 ∷ 0 ∷ 0 ∷ 0 ∷ 45 ∷ 0 ∷ 0 ∷ 49 ∷ 0 ∷ 0 ∷ 0 ∷ 0 ∷ 0 ∷ 0 ∷ [])
-    ∷ []
+-- The place in the table of first corners for a number of timers and their groups.
+abbrev place : ℕ → List ℕ → ℕ
+place n group = 16 * (n - 1 + getD group 2 0) + 4 * getD group 0 0 + getD group 1 0
 
--- The number that it gives a corner.
+-- What stands there: the number of the region's first corner.
+abbrev first : ℕ → List ℕ → ℕ
+first n group = entry firstRows (place n group / 8) (place n group % 8)
+
+-- The number that the table gives a corner.
 abbrev numbered : ℕ → Corner → ℕ
-numbered n c = entry firsts (n - 1 + getD (c .group) 2 0) (4 * getD (c .group) 0 0 + getD (c .group) 1 0) + c .index
+numbered n c = first n (c .group) + c .index
 
 -- That is the corner's place in the list of corners.
 numberTest : ℕ → Bool
@@ -66,35 +76,17 @@ number-right n i few there =
 
 pub number-is :
     (s : Region) (r : PricedRegion) → Holds s r → (j : ℕ) → j ≤ s .top
-    → entry firsts (s .timers - 1 + getD (s .group) 2 0) (4 * getD (s .group) 0 0 + getD (s .group) 1 0) + j
-    ≡ cornerNumber (s .timers) (cornerOf r j)
+    → first (s .timers) (s .group) + j ≡ cornerNumber (s .timers) (cornerOf r j)
 number-is s r h j there =
     let at = group-at s r h in
     rw (at 0, at 1, at 2)
     (ap (numbered (s .timers)) (sym (corner-again s r h j there)) ∙ number-right (s .timers) _ (h .few) (corner-below s r h j there))
 
--- The code's tables ROW and CORNER.
+-- The code's table ROW.
 abbrev rows : List ℕ
 rows = 0 ∷ 0 ∷ 1 ∷ 3 ∷ []
 
-abbrev codes : List (List ℕ)
-codes =
-    (0 ∷ 16 ∷ 80 ∷ 0 ∷ 0 ∷ 0 ∷ 0 ∷ 0 ∷ [])
-    ∷ (0 ∷ 4 ∷ 68 ∷ 16 ∷ 80 ∷ 20 ∷ 84 ∷ 24 ∷ [])
-    ∷ (88 ∷ 152 ∷ 36 ∷ 100 ∷ 164 ∷ 0 ∷ 0 ∷ 0 ∷ [])
-    ∷ (0 ∷ 5 ∷ 69 ∷ 16 ∷ 80 ∷ 1 ∷ 65 ∷ 17 ∷ [])
-    ∷ (81 ∷ 6 ∷ 70 ∷ 134 ∷ 18 ∷ 82 ∷ 146 ∷ 33 ∷ [])
-    ∷ (97 ∷ 161 ∷ 4 ∷ 68 ∷ 20 ∷ 84 ∷ 9 ∷ 73 ∷ [])
-    ∷ (137 ∷ 24 ∷ 88 ∷ 152 ∷ 36 ∷ 100 ∷ 164 ∷ 21 ∷ [])
-    ∷ (85 ∷ 26 ∷ 90 ∷ 154 ∷ 37 ∷ 101 ∷ 165 ∷ 22 ∷ [])
-    ∷ (86 ∷ 150 ∷ 38 ∷ 102 ∷ 166 ∷ 27 ∷ 91 ∷ 155 ∷ [])
-    ∷ (219 ∷ 39 ∷ 103 ∷ 167 ∷ 231 ∷ 54 ∷ 118 ∷ 182 ∷ [])
-    ∷ (246 ∷ 25 ∷ 89 ∷ 153 ∷ 41 ∷ 105 ∷ 169 ∷ 30 ∷ [])
-    ∷ (94 ∷ 158 ∷ 222 ∷ 45 ∷ 109 ∷ 173 ∷ 237 ∷ 57 ∷ [])
-    ∷ (121 ∷ 185 ∷ 249 ∷ 0 ∷ 0 ∷ 0 ∷ 0 ∷ 0 ∷ [])
-    ∷ []
-
--- The corner that they give a number: its index and its groups as digits of base 4.
+-- The corner that the tables give a number: its index and its groups as digits of base 4.
 abbrev decoded : ℕ → CornerAt
 decoded x = record {
   group = x / 16 % 4 ∷ x / 4 % 4 ∷ x % 4 ∷ [];
@@ -103,7 +95,7 @@ decoded x = record {
 }
 
 abbrev coded : ℕ → ℕ → ℕ
-coded n i = entry codes (getD rows n 0 + i / 8) (i % 8)
+coded n i = entry cornerRows (getD rows n 0 + i / 8) (i % 8)
 
 holdsCorner : CornerAt → Corner → Bool
 holdsCorner r c = sameList (r .group) (pad 3 (c .group)) && (eqb (r .index) (c .index) && eqb (r .top) (highest (c .group)))

@@ -2,5 +2,6 @@
 pub mod Held
 pub mod Arrays
 pub mod Nodes
+pub mod Tables
 -- What a caller may conclude from a contract:
 pub mod Laws

@@ -1,12 +1,11 @@
 // Layer 2: priced regions of one to three timers, by value, and the corners of a cell by their numbers.
 ghost use mathlib.Core.Path.{_≡_};
 ghost use mathlib.Core.Bool.{true, false};
-ghost use mathlib.Core.List.{_∷_, []};
 ghost use Prim.Native.Nat.{_<_, _≤_, max};
 ghost use lib.ListN.{take};
 ghost use Rattle.semantics.specs.Region.{noZero, alone, start, leave, arrive, delay, linger, reset, resetAll, charge, meets, within};
 ghost use Rattle.semantics.specs.Corner.{cornerCount, cornerOf, cornerNumber, cornerAt};
-ghost use Rattle.reader.specs.Meaning.{named, namedTimers, conditionOf};
+ghost use Rattle.reader.specs.Meaning.{namedTimers, conditionOf};
 ghost use Rattle.regions.specs.Held.{mostTimers, pack, view, Valid, PriceRoom, WholeRoom, packCorner};
 
 mod arrays;
@@ -93,9 +92,13 @@ impl Region {
         requires { ⌜ Valid self ⌝ }
         ensures { λ r. ⌜ r ≡ pack (resetAll (namedTimers resets) (view self)) ⌝ }
     {
-        let a = self.reset_if_named(resets, 0);
-        let b = a.reset_if_named(resets, 1);
-        b.reset_if_named(resets, 2)
+        let mut region = self;
+        for timer in 0..Region::MOST_TIMERS {
+            if (resets >> timer) % 2 == 1 {
+                region = region.reset(timer);
+            }
+        }
+        region
     }
 
     // "Charge: the move's price is added to every corner."
@@ -150,8 +153,8 @@ impl Region {
         ensures { λ r. ⌜ r ≡ cornerNumber (self .timers) (cornerOf (view self) index) ⌝ }
     {
         let group = self.group;
-        let row = tables::FIRST[(self.timers - 1 + group[2]) as usize];
-        let first = row[(4 * group[0] + group[1]) as usize];
+        let at = wide(16 * (self.timers - 1 + group[2]) + 4 * group[0] + group[1]);
+        let first = tables::entry(tables::first_row(at / 8), at % 8);
         wide(first) + index
     }
 
@@ -160,8 +163,8 @@ impl Region {
         requires { ⌜ (timers ≤ mostTimers) × (number < cornerCount timers 1) ⌝ }
         ensures { λ r. ⌜ r ≡ packCorner (cornerAt timers number) ⌝ }
     {
-        let row = tables::CORNER[wide(tables::ROW[timers]) + number / 8];
-        let code = row[number % 8];
+        let row = wide(tables::ROW[timers]) + number / 8;
+        let code = tables::entry(tables::corner_row(row), number % 8);
         let a = code / 16 % 4;
         let b = code / 4 % 4;
         let c = code % 4;
@@ -255,18 +258,6 @@ impl Region {
         self.whole[timer] = 0;
         self.group[timer] = 0;
         self
-    }
-
-    // The timer is reset if its bit stands in the byte.
-    fn reset_if_named(self, resets: u8, timer: usize) -> Region
-        requires { ⌜ Valid self × (timer < mostTimers) ⌝ }
-        ensures { λ r. ⌜ r ≡ pack (resetAll (named resets (timer ∷ [])) (view self)) ⌝ }
-    {
-        if (resets >> timer) % 2 == 1 {
-            self.reset(timer)
-        } else {
-            self
-        }
     }
 }
 

@@ -1,40 +1,61 @@
--- `regions::Region::reset_all` meets its contract.
+-- `regions::Region::reset_all` meets its contract. The loop has reset the timers before the present one that the byte names.
 -- Assumes nothing.
+use mathlib.Core.Path.{refl, _∙_}
+use mathlib.Core.Logic.{⊎-elim}
+use Prim.Native.Nat.{_-_}
 use native.Mathlib.Omega.{arith}
 use borrow.Author.Needs.{needs}
-use Rattle.regions.specs.Laws.Chain.{resetAll-gives}
-use Rattle.regions.proofs.Resets.{resets-is}
+use Rattle.regions.specs.Held.{view}
+use Rattle.regions.proofs.Resets.{ResetBelow, named-reset, unnamed-kept, all-reset}
 use Rattle.regions.proofs.Region.reset_all.Statement.{statement}
 use Rattle.regions.proofs.Region.reset_all.Tie as tie
 
-reset-if-named-requires : tie.Need-reset-if-named-requires
-reset-if-named-requires c κs = search needs
+abbrev Inv-loop : tie.InvT-loop
+Inv-loop resets region₀ timer₀ region timer = ResetBelow resets (view region₀) timer region
 
-reset-if-named-requires-2 : tie.Need-reset-if-named-requires-2
-reset-if-named-requires-2 c κs =
-    let g = resetAll-gives (c .before .args .self) (c .reset-if-named .result) (c .before .pre) _ (c .reset-if-named .ensures) in
-    (g .valid, omega arith)
+abbrev μ-loop : tie.MeasureT-loop
+μ-loop resets region₀ timer₀ region timer = 3 - timer
 
-reset-if-named-requires-3 : tie.Need-reset-if-named-requires-3
-reset-if-named-requires-3 c κs =
-    let a = c .before in
-    let g = resetAll-gives (a .before .args .self) (a .reset-if-named .result) (a .before .pre) _ (a .reset-if-named .ensures) in
-    let k = resetAll-gives (a .reset-if-named .result) (c .reset-if-named2 .result) (g .valid) _ (c .reset-if-named2 .ensures) in
-    (k .valid, omega arith)
+loop-holds : tie.Need-loop-holds Inv-loop μ-loop
+loop-holds c = record { few = omega arith; valid = c .pre; gives = refl }
 
-returns : tie.Need-returns
-returns c =
-    let b = c .before in
-    let a = b .before in
-    resets-is (a .before .args .resets) (a .before .args .self) _ _ _ (a .before .pre) (a .reset-if-named .ensures)
-    (b .reset-if-named2 .ensures)
-    (c .reset-if-named3 .ensures)
+cast-if1 : tie.Need-cast-if1 Inv-loop μ-loop
+cast-if1 c = search needs
+
+shr-if1 : tie.Need-shr-if1 Inv-loop μ-loop
+shr-if1 c = search needs
+
+reset-requires : tie.Need-reset-requires Inv-loop μ-loop
+reset-requires c κs = (c .before .before .loop .inv .valid, omega arith)
+
+add-timer : tie.Need-add-timer Inv-loop μ-loop
+add-timer c = omega arith
+
+loop-less : tie.Need-loop-less Inv-loop μ-loop
+loop-less c = omega arith
+
+loop-again : tie.Need-loop-again Inv-loop μ-loop
+loop-again c =
+    let inv = c .before .before .loop .inv in
+    ⊎-elim
+    (λ w. named-reset _ _ _ _ inv _ (omega arith) (w .0 .taken) (w .2 ∙ w .1 .ensures))
+    (λ w. unnamed-kept _ _ _ _ inv _ (omega arith) (w .0 .left) (w .1))
+    (c .if1 .came)
+
+returns : tie.Need-returns Inv-loop μ-loop
+returns c = all-reset _ _ _ _ (c .before .loop .inv) (omega arith)
 
 pub reset-all-spec : {M : Type 1} → statement M
 reset-all-spec =
     tie.close
     (tie.spec
-    reset-if-named-requires
-    reset-if-named-requires-2
-    reset-if-named-requires-3
+    Inv-loop
+    μ-loop
+    loop-holds
+    cast-if1
+    shr-if1
+    reset-requires
+    add-timer
+    loop-less
+    loop-again
     returns)

@@ -56,7 +56,7 @@ fn with_digit(high: usize, factor: usize, digit: u8) -> usize
 }
 
 // The number of a cell.
-pub fn cell_number(ceilings: [u8; Region::MOST_TIMERS], whole: [u8; Region::MOST_TIMERS]) -> usize
+fn cell_number(ceilings: [u8; Region::MOST_TIMERS], whole: [u8; Region::MOST_TIMERS]) -> usize
     requires { ⌜ CeilingsFew ceilings ⌝ }
     ensures { λ r. ⌜ (r ≡ cellNumber ceilings whole) × (r ≤ mostCellNumber) ⌝ }
 {
@@ -77,7 +77,7 @@ fn digit(number: usize, factor: usize) -> u8
 }
 
 // The cell with a number.
-pub fn cell_at(ceilings: [u8; Region::MOST_TIMERS], number: usize) -> [u8; Region::MOST_TIMERS]
+fn cell_at(ceilings: [u8; Region::MOST_TIMERS], number: usize) -> [u8; Region::MOST_TIMERS]
     requires { ⌜ CeilingsFew ceilings ⌝ }
     ensures { λ r. ⌜ r ≡ cellAt ceilings number ⌝ }
 {

@@ -1,11 +1,11 @@
 // Layer 4: the call that plans a table.
 ghost use mathlib.Core.Path.{_≡_};
+ghost use Prim.Native.Nat.{_-_, _≤_, max};
 ghost use lib.ListN.{length};
 ghost use Rattle.reader.specs.Held.{IsTable};
 ghost use Rattle.search.specs.Regions.{automatonOf};
 ghost use Rattle.route.specs.Plan.{outcome, plannedTable, planned};
 ghost use Rattle.route.specs.Promise.{KeepsDemand};
-ghost use Prim.Native.Nat.{_-_, _≤_, max};
 ghost use Rattle.route.specs.Walk.{Found, ReadOff, WalkReady, Walked, ChooseReady, Choice, RetraceReady, Retraces};
 use reader::Table;
 use reader::Verdict;
@@ -18,7 +18,7 @@ use search::places::Place;
 // "10: the route has more steps than route bytes lent".
 const ROUTE_TOO_LONG: u8 = 10;
 
-// How many places of the way are kept.
+// How many places on the way are kept.
 const KEPT: usize = 8;
 
 // A refusal with document 01's number; no route; or a route with its charge and its number of steps.
@@ -108,7 +108,8 @@ fn read_route(table: Table, nodes: usize, words: &mut [u32], route: &mut [u8]) -
 }
 
 // "the route is one with fewest steps; among those the first in byte order": goes on by the least byte that leads to a place that stands by the words.
-// Where none does, the place is left for good, and the step before is taken back.
+// Where none does, the place is left for good, and the step before is taken back. The places of the last eight steps are kept for that; for one
+// before them the route's bytes are followed again.
 fn walk<'a>(
     words: &mut [u32],
     route: &mut [u8],
@@ -137,6 +138,7 @@ fn walk<'a>(
     let mut place = start;
     let mut depth: usize = 0;
     let mut first: u8 = 0;
+    // The places from the depth `low` on are kept, that of depth i at i % 8.
     let mut low: usize = 0;
     let mut trail = [start; KEPT];
     while place.mode != goal {
@@ -188,7 +190,7 @@ fn walk<'a>(
     }
 }
 
-// The least depth of which the place is kept, when those from `low` on were and that at `depth` is added.
+// The least depth whose place is kept, where those from `low` on were and that of `depth` is added.
 fn lowest(low: usize, depth: usize) -> usize
     requires { ⌜ low ≤ depth ⌝ }
     ensures { λ r. ⌜ r ≡ max low (depth - 7) ⌝ }
@@ -250,7 +252,7 @@ fn choose<'a>(
     Chosen { byte, place }
 }
 
-// The places to which the route's first bytes lead, up to `depth` of them: that of the first i bytes stands at i % 8, if it is among the last eight.
+// The places on the way along the route's first `depth` bytes: of the last eight, that of depth i stands at i % 8.
 fn retrace<'a>(
     start: Place,
     route: &[u8],

@@ -8,7 +8,7 @@ use native.Mathlib.Omega.{arith}
 use borrow.Author.Tests.{eq-eqb, ne-eqb, le-leb, lt-leb}
 use lib.ListN.{length, drop}
 use Rattle.semantics.specs.Automaton.{Automaton, Proper}
-use Rattle.semantics.specs.Path.{Cost, cost, unreached, reached, infinity}
+use Rattle.semantics.specs.Path.{Cost, cost, unreached, reached, infinity, table}
 use Rattle.semantics.specs.Node.{nodeCount}
 use Rattle.semantics.specs.Distance.{distance}
 use Rattle.semantics.specs.Chain.{begin}
@@ -71,7 +71,7 @@ module _ {t : Table} {nodes : ℕ} {ws : List ℕ} (f : Found t nodes ws) (r : C
   found-distance =
       let k = f .is-table in
       let l = t .goal in
-      near-best (graphOf t l) (startOf t) (goal-closed t k l) (goal-inside t k l) mostPrice (goal-light t k l) (goal-small t k l few) ws (f .near)
+      near-best (graphOf t l) (startOf t) (goal-closed t k l) (goal-inside t k l) mostPrice (goal-light t k l) (goal-small t k l few) (table ws) (f .near)
       (costEntry r) (best-target t k l nodes (t .modes) (f .counted) refl ws r best)
 
   -- There is none.

@@ -22,8 +22,9 @@ use Rattle.semantics.specs.Paths.Words.{table-unreached, table-holds, reached-w
 use Rattle.semantics.specs.Paths.Update.{Blank}
 use Rattle.semantics.specs.Paths.Seed.{Seeded, seeded-sound}
 use Rattle.semantics.specs.Paths.Turned.{turned-nodes, turned-target}
-use Rattle.semantics.specs.Paths.Ahead.{anyCharge, boundOf}
-use Rattle.semantics.specs.Paths.Near.{found-near, near-words}
+use Rattle.semantics.specs.Paths.Ahead.{anyCharge, boundOf, Charges}
+use Rattle.semantics.specs.Paths.Near.{near-words}
+use Rattle.semantics.specs.Paths.Spread.{spread-near}
 use Rattle.semantics.specs.Answers.Graph.{graph-nodes}
 use Rattle.reader.specs.declared.Table.{Table}
 use Rattle.reader.specs.Fields.{mostPrice}
@@ -260,11 +261,14 @@ module _ (t : Table) (k : IsTable t) (ws : List ℕ) (n : ℕ) (f : Fits (automa
           small : graphOf t goal .nodes * mostPrice < anyCharge
           small = goal-small t k goal (omega (arith, f .few, f .counted))
 
+          charges : Charges (graphOf t goal) ws₁
+          charges v h = omega (arith, fit (2 * v))
+
           entries :
               (v : ℕ) → v < graphOf t goal .nodes
               → table ws₂ v ≡ near (distance (graphOf t goal) (startOf t)) (distance (turned (graphOf t goal) (startOf t)) v)
           entries v h =
               kept-entry n r ws₁ ws₂ kept none fit v (omega (arith, sized))
-              ∙ found-near (graphOf t goal) (startOf t) (goal-closed t k goal) (goal-inside t k goal) mostPrice (goal-light t k goal) small ws₁
-              (boundOf (w .pend)) (w .spread) (w .at-goal) (costEntry r)
+              ∙ spread-near (graphOf t goal) (startOf t) (goal-closed t k goal) (goal-inside t k goal) mostPrice (goal-light t k goal) small ws₁
+              (boundOf (w .pend)) (w .spread) charges (w .at-goal) (costEntry r)
               (best-target t k goal n (t .modes) (f .counted) refl ws₁ r best) v h

@@ -23,10 +23,11 @@ pub mod Update
 pub mod Seed
 -- Found forwards from a node, and the nodes on best paths from it.
 pub mod Turned
-pub mod Spread
+pub mod Explored
 pub mod Ahead
-pub mod Passes
 pub mod Near
+pub mod Spread
+pub mod Passes
 pub mod Priced
 -- The distance as a function.
 pub mod UpTo

@@ -91,7 +91,7 @@ module _ (t : Table) (ok : IsTable t) (goal nodes modes : ℕ) (counted : nodes 
       (inside, graph-goal a goal v .1 (mode-block t ok goal goal there v inside .1 (from, to)))
 
   -- The least cost of the goal's nodes is the least entry of the targets.
-  pub best-target : (ws : List ℕ) (r : CostHeld) → IsBest nodes goal modes ws r → BestTarget (graphOf t goal) ws (costEntry r)
+  pub best-target : (ws : List ℕ) (r : CostHeld) → IsBest nodes goal modes ws r → BestTarget (graphOf t goal) (table ws) (costEntry r)
   best-target ws r best = record {
     none = λ q v h x. table-unreached ws v (best .unreached (entry-none r q) .1 v (target-in v h x));
     some = λ c q.
@@ -185,7 +185,7 @@ module _ (t : Table) (ok : IsTable t) (l : ℕ) where
         (nodes modes : ℕ) → nodes ≡ nodeCount (automatonOf t) → modes ≡ t .modes → (r : CostHeld)
         → IsBest nodes l modes (searched (automatonOf t) l ws) r → costEntry r ≡ distance (graphOf t l) (startOf t)
     searched-best nodes modes counted modes-are r best =
-        near-best (graphOf t l) (startOf t) goal-closed goal-inside mostPrice goal-light (goal-small few) (searched (automatonOf t) l ws) searched-near
+        near-best (graphOf t l) (startOf t) goal-closed goal-inside mostPrice goal-light (goal-small few) (table (searched (automatonOf t) l ws)) searched-near
         (costEntry r) (best-target t ok l nodes modes counted modes-are (searched (automatonOf t) l ws) r best)
 
     -- The two words of a node are those of its entry.

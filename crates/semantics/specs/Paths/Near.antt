@@ -1,4 +1,4 @@
--- What is found forwards from a node s up to the least charge of the targets, with what is dearer or farther left out, are the words of a search.
+-- What is explored forwards from a node s up to the least cost of the targets, with what is dearer or farther left out, are the words of a search.
 -- Assumes nothing.
 use mathlib.Core.Path.{_≡_, refl, sym, ap, subst, _∙_}
 use mathlib.Core.Bool.{Bool, true, false, _&&_, cond}
@@ -10,24 +10,32 @@ use native.Mathlib.Omega.{arith}
 use lib.Dec.{leb}
 use lib.ListN.{length, drop}
 use borrow.Author.Tests.{le-leb, lt-leb}
-use Rattle.semantics.specs.Path.{Edge, Graph, Target, Closed, WeightsWithin, IsPath, Cost, cost, costOf, _≼_, _≺_, HasCost, Least, Entry, unreached, reached, along, chargeAt, table}
+use Rattle.semantics.specs.Path.{Edge, Graph, Target, Closed, WeightsWithin, IsPath, Cost, cost, costOf, _≼_, _≺_, HasCost, Least, Entry, unreached, reached, Within, along, table}
 use Rattle.semantics.specs.Distance.{distance, entryWords}
 use Rattle.semantics.specs.Near.{turned, near, nearWords}
-use Rattle.semantics.specs.Paths.Cost.{cost-same, cost-antisymm, cost-both, cost-total, cost-charge, less-trans}
+use Rattle.semantics.specs.Paths.Cost.{cost-same, cost-antisymm, cost-trans, cost-both, cost-total, less-trans}
+use Rattle.semantics.specs.Paths.Distance.{within-cost}
 use Rattle.semantics.specs.Paths.Least.{no-less-cost, least-charge, least-reached}
 use Rattle.semantics.specs.Paths.Words.{reached-words, unreached-words}
 use Rattle.semantics.specs.Paths.Update.{Blank}
 use Rattle.semantics.specs.Paths.Turned.{plus, plus-none, plus-start, plus-along, turned-nodes, turned-closed, turned-light, turned-start, turned-more, turned-then}
-use Rattle.semantics.specs.Paths.Spread.{Spread, path-cost, spread-least}
+use Rattle.semantics.specs.Paths.Explored.{Explored, path-cost, explored-least}
 use Rattle.semantics.specs.Paths.UpTo.{distance-least}
 use Rattle.semantics.specs.Paths.Found.{wordsAt, entry-words, words-entry, words-gathered, words-scattered}
 use Rattle.semantics.specs.Paths.Ahead.{anyCharge}
 
 -- b is the least entry of the targets.
-pub record BestTarget (g : Graph) (ws : List ℕ) (b : Entry) : Type 0 where
-  pub none : b ≡ unreached → (v : ℕ) → v < g .nodes → Target g v → table ws v ≡ unreached
-  pub some : (c : Cost) → b ≡ reached c → (v : ℕ) × (v < g .nodes) × Target g v × (table ws v ≡ reached c)
-  pub least : (c : Cost) → b ≡ reached c → (v : ℕ) (a : Cost) → v < g .nodes → Target g v → table ws v ≡ reached a → c ≼ a
+pub record BestTarget (g : Graph) (d : ℕ → Entry) (b : Entry) : Type 0 where
+  pub none : b ≡ unreached → (v : ℕ) → v < g .nodes → Target g v → d v ≡ unreached
+  pub some : (c : Cost) → b ≡ reached c → (v : ℕ) × (v < g .nodes) × Target g v × (d v ≡ reached c)
+  pub least : (c : Cost) → b ≡ reached c → (v : ℕ) (a : Cost) → v < g .nodes → Target g v → d v ≡ reached a → c ≼ a
+
+-- Some target has an entry that costs at most c.
+pub record TargetWithin (g : Graph) (d : ℕ → Entry) (c : Cost) : Type 0 where
+  pub node : ℕ
+  pub inside : node < g .nodes
+  pub target : Target g node
+  pub within : Within (d node) c
 
 -- No entry is both unreached and reached.
 not-reached : (x : Entry) (c : Cost) → x ≡ unreached → x ≡ reached c → ⊥
@@ -99,9 +107,9 @@ module _ (g : Graph) (s : ℕ) (closed : Closed g) (inside : s < g .nodes) where
       distance-least (turned g s) (turned-closed g s) .no-path v (rw (turned-nodes g s) h) q (r .path) (r .is-path)
 
   -- Where the entries of the targets are costs of ways to them, and the least cost from s stands there, the least of them is that.
-  module _ (ws : List ℕ) (attained : (v : ℕ) (a : Cost) → v < g .nodes → table ws v ≡ reached a → HasCost (turned g s) v a)
-      (stands : (B : Cost) (v : ℕ) → v < g .nodes → Least g s B → Least (turned g s) v B → table ws v ≡ reached B)
-      (b : Entry) (best : BestTarget g ws b) where
+  module _ (d : ℕ → Entry) (attained : (v : ℕ) (a : Cost) → v < g .nodes → d v ≡ reached a → HasCost (turned g s) v a)
+      (stands : (B : Cost) (v : ℕ) → v < g .nodes → Least g s B → Least (turned g s) v B → d v ≡ reached B)
+      (b : Entry) (best : BestTarget g d b) where
     -- There is a path from s.
     best-there : (B : Cost) → Least g s B → b ≡ reached B
     best-there B l = at b refl
@@ -109,11 +117,11 @@ module _ (g : Graph) (s : ℕ) (closed : Closed g) (inside : s < g .nodes) where
         t : Goal g s B
         t = goal-at B (l .attained)
 
-        entry : table ws (t .node) ≡ reached B
+        entry : d (t .node) ≡ reached B
         entry = stands B (t .node) (t .inside) l (goal-turned B l (t .node) (t .inside) (t .target) (t .comes))
 
         at : (x : Entry) → b ≡ x → b ≡ reached B
-        at unreached q = absurd (not-reached (table ws (t .node)) B (best .none q (t .node) (t .inside) (t .target)) entry)
+        at unreached q = absurd (not-reached (d (t .node)) B (best .none q (t .node) (t .inside) (t .target)) entry)
         at (reached c) q =
             let o = best .some c q in
             let low = best .least c q (t .node) B (t .inside) (t .target) entry in
@@ -154,86 +162,78 @@ module _ (g : Graph) (s : ℕ) (closed : Closed g) (inside : s < g .nodes) (w : 
       let fewer : g .nodes - 1 ≤ g .nodes = omega arith in
       omega (arith, small, charge, mul-le-mul-right w fewer)
 
-  -- Found up to a bound that is the charge of a target, or above every charge.
-  module _ (ws : List ℕ) (bound : ℕ) (spread : Spread g s bound ws)
-      (at-target : (anyCharge ≤ bound) ⊎ ((v : ℕ) × (v < g .nodes) × Target g v × (chargeAt ws v ≤ bound))) (b : Entry) (best : BestTarget g ws b) where
+  -- Explored up to a bound that a target is within, or up to none.
+  module _ (d : ℕ → Entry) (bound : Entry) (explored : Explored g s bound d)
+      (at-target : (c : Cost) → bound ≡ reached c → TargetWithin g d c) (b : Entry) (best : BestTarget g d b) where
     -- Entries are costs of ways from s.
-    comes : (v : ℕ) (a : Cost) → v < g .nodes → table ws v ≡ reached a → HasCost (turned g s) v a
-    comes v a h q = spread .sound .attained v a (rw (turned-nodes g s) h) q
+    comes : (v : ℕ) (a : Cost) → v < g .nodes → d v ≡ reached a → HasCost (turned g s) v a
+    comes = explored .attained
 
-    -- The least charge from s is at most the bound.
-    least-low : (B : Cost) → Least g s B → B .charge ≤ bound
-    least-low B l = at at-target
-      where
-        found : (v : ℕ) → v < g .nodes → Target g v → chargeAt ws v ≤ bound → (x : Entry) → table ws v ≡ x → B .charge ≤ bound
-        found v h t k unreached q = omega (arith, k, unreached-words ws v q, least-small B l)
-        found v h t k (reached a) q =
-            omega (arith, k, reached-words ws v a q .charge, cost-charge B a (goal-least g s closed inside B l v a h t (comes v a h q)))
-
-        at : (anyCharge ≤ bound) ⊎ ((v : ℕ) × (v < g .nodes) × Target g v × (chargeAt ws v ≤ bound)) → B .charge ≤ bound
-        at (inl k) = omega (arith, k, least-small B l)
-        at (inr o) = found (o .0) (o .1) (o .2) (o .3) (table ws (o .0)) refl
+    -- The least cost from s is at most the bound.
+    least-low : (B : Cost) → Least g s B → (c : Cost) → bound ≡ reached c → B ≼ c
+    least-low B l c e =
+        let t = at-target c e in
+        let r = within-cost (d (t .node)) c (t .within) in
+        cost-trans B (r .cost) c
+        (goal-least g s closed inside B l (t .node) (r .cost) (t .inside) (t .target) (comes (t .node) (r .cost) (t .inside) (r .entry))) (r .within)
 
     -- Ways that cost at most the least cost from s were found.
-    found-upto : (B : Cost) → Least g s B → (v : ℕ) (c : Cost) → v < g .nodes → Least (turned g s) v c → c ≼ B → table ws v ≡ reached c
-    found-upto B l v c h k less = spread-least g s bound ws closed inside spread B (least-low B l) (goal-least g s closed inside B l) v c h k less
+    found-upto : (B : Cost) → Least g s B → (v : ℕ) (c : Cost) → v < g .nodes → Least (turned g s) v c → c ≼ B → d v ≡ reached c
+    found-upto B l v c h k less = explored-least g s bound d explored B (least-low B l) (goal-least g s closed inside B l) v c h k less
 
     -- The least entry of the targets is the least cost from s.
     pub found-best : b ≡ distance g s
     found-best =
-        best-distance g s closed inside ws comes (λ B v h l k. found-upto B l v B h k (cost-both B B (omega arith) (omega arith))) b best
+        best-distance g s closed inside d comes (λ B v h l k. found-upto B l v B h k (cost-both B B (omega arith) (omega arith))) b best
 
-    -- If no target is reached, the bound is above every charge.
-    none-low : b ≡ unreached → anyCharge ≤ bound
-    none-low none = at at-target
-      where
-        at : (anyCharge ≤ bound) ⊎ ((v : ℕ) × (v < g .nodes) × Target g v × (chargeAt ws v ≤ bound)) → anyCharge ≤ bound
-        at (inl k) = k
-        at (inr o) = omega (arith, o .3, unreached-words ws (o .0) (best .none none (o .0) (o .1) (o .2)))
-
-    -- Then everything was found.
-    found-all : b ≡ unreached → (v : ℕ) (c : Cost) → v < g .nodes → Least (turned g s) v c → table ws v ≡ reached c
+    -- If no target is reached there is no bound, and everything was found.
+    found-all : b ≡ unreached → (v : ℕ) (c : Cost) → v < g .nodes → Least (turned g s) v c → d v ≡ reached c
     found-all none v c h l =
-        spread-least g s bound ws closed inside spread c (omega (arith, none-low none, way-small v c h l)) goals v c h l
-        (cost-both c c (omega arith) (omega arith))
+        explored-least g s bound d explored c no-bound goals v c h l (cost-both c c (omega arith) (omega arith))
       where
+        no-bound : (a : Cost) → bound ≡ reached a → c ≼ a
+        no-bound a e =
+            let t = at-target a e in
+            let r = within-cost (d (t .node)) a (t .within) in
+            absurd (not-reached (d (t .node)) (r .cost) (best .none none (t .node) (t .inside) (t .target)) (r .entry))
+
         goals : (u : ℕ) (a : Cost) → u < g .nodes → Target g u → HasCost (turned g s) u a → c ≼ a
         goals u a k t r =
             let p = goal-path g s closed inside u a t r in
             absurd (distance-least g closed .no-path s inside (sym found-best ∙ none) (p .path) (p .is-path))
 
     -- Where no way leads, there is no entry.
-    found-none : (v : ℕ) → v < g .nodes → distance (turned g s) v ≡ unreached → table ws v ≡ unreached
-    found-none v h none = at (table ws v) refl
+    found-none : (v : ℕ) → v < g .nodes → distance (turned g s) v ≡ unreached → d v ≡ unreached
+    found-none v h none = at (d v) refl
       where
-        at : (x : Entry) → table ws v ≡ x → table ws v ≡ unreached
+        at : (x : Entry) → d v ≡ x → d v ≡ unreached
         at unreached q = q
         at (reached a) q = absurd (way-none g s closed inside v a h none (comes v a h q))
 
     -- An entry is left out if the least cost of a way is more than the least cost from s.
-    found-more : (B c : Cost) (v : ℕ) → v < g .nodes → Least (turned g s) v c → B ≺ c → near (reached B) (table ws v) ≡ unreached
-    found-more B c v h l more = at (table ws v) refl
+    found-more : (B c : Cost) (v : ℕ) → v < g .nodes → Least (turned g s) v c → B ≺ c → near (reached B) (d v) ≡ unreached
+    found-more B c v h l more = at (d v) refl
       where
-        at : (x : Entry) → table ws v ≡ x → near (reached B) (table ws v) ≡ unreached
+        at : (x : Entry) → d v ≡ x → near (reached B) (d v) ≡ unreached
         at unreached q = ap (near (reached B)) q
         at (reached a) q =
             let low = no-less-cost (turned g s) v c a l (comes v a h q) in
             ap (near (reached B)) q ∙ near-more B a (less-trans B c a more low)
 
     -- As far as they are as near as b, the entries are the least costs from s.
-    near-entry : (v : ℕ) → v < g .nodes → near b (table ws v) ≡ near b (distance (turned g s) v)
+    near-entry : (v : ℕ) → v < g .nodes → near b (d v) ≡ near b (distance (turned g s) v)
     near-entry v h = at b refl (distance (turned g s) v) refl
       where
         split :
             (B c : Cost) → Least g s B → distance (turned g s) v ≡ reached c → (c ≼ B) ⊎ (B ≺ c)
-            → near (reached B) (table ws v) ≡ near (reached B) (distance (turned g s) v)
+            → near (reached B) (d v) ≡ near (reached B) (distance (turned g s) v)
         split B c l q (inl less) = ap (near (reached B)) (found-upto B l v c h (way-least g s closed inside v c h q) less ∙ sym q)
         split B c l q (inr more) =
             found-more B c v h (way-least g s closed inside v c h q) more ∙ sym (ap (near (reached B)) q ∙ near-more B c more)
 
         at :
             (x : Entry) → b ≡ x → (y : Entry) → distance (turned g s) v ≡ y
-            → near b (table ws v) ≡ near b (distance (turned g s) v)
+            → near b (d v) ≡ near b (distance (turned g s) v)
         at x p unreached q = ap (near b) (found-none v h q ∙ sym q)
         at unreached p (reached c) q = ap (near b) (found-all p v c h (way-least g s closed inside v c h q) ∙ sym q)
         at (reached B) p (reached c) q =
@@ -241,7 +241,7 @@ module _ (g : Graph) (s : ℕ) (closed : Closed g) (inside : s < g .nodes) (w : 
             rw p (split B c l q (cost-total c B))
 
     -- As far as they are as near as that, the entries are the least costs from s.
-    pub found-near : (v : ℕ) → v < g .nodes → near b (table ws v) ≡ near (distance g s) (distance (turned g s) v)
+    pub found-near : (v : ℕ) → v < g .nodes → near b (d v) ≡ near (distance g s) (distance (turned g s) v)
     found-near v h = near-entry v h ∙ ap (λ (x : Entry). near x (distance (turned g s) v)) found-best
 
   -- Words with those entries are the words of a search.
@@ -266,15 +266,15 @@ module _ (g : Graph) (s : ℕ) (closed : Closed g) (inside : s < g .nodes) (w : 
 
   -- There the least entry of the targets is the least cost from s too.
   pub near-best :
-      (ws : List ℕ) → ((v : ℕ) → v < g .nodes → table ws v ≡ near (distance g s) (distance (turned g s) v)) → (b : Entry) → BestTarget g ws b
+      (d : ℕ → Entry) → ((v : ℕ) → v < g .nodes → d v ≡ near (distance g s) (distance (turned g s) v)) → (b : Entry) → BestTarget g d b
       → b ≡ distance g s
-  near-best ws entries b best = best-distance g s closed inside ws attained stands b best
+  near-best d entries b best = best-distance g s closed inside d attained stands b best
     where
-      attained : (v : ℕ) (a : Cost) → v < g .nodes → table ws v ≡ reached a → HasCost (turned g s) v a
+      attained : (v : ℕ) (a : Cost) → v < g .nodes → d v ≡ reached a → HasCost (turned g s) v a
       attained v a h q =
           way-least g s closed inside v a h (near-reached (distance g s) (distance (turned g s) v) a (sym (entries v h) ∙ q)) .attained
 
-      stands : (B : Cost) (v : ℕ) → v < g .nodes → Least g s B → Least (turned g s) v B → table ws v ≡ reached B
+      stands : (B : Cost) (v : ℕ) → v < g .nodes → Least g s B → Least (turned g s) v B → d v ≡ reached B
       stands B v h l k =
           let from = least-reached g (distance g) (distance-least g closed) s inside B l in
           let here = way-reached g s closed inside v B h k in

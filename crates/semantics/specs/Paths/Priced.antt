@@ -8,7 +8,7 @@ use native.Mathlib.Omega.{arith}
 use Rattle.semantics.specs.Path.{Graph, Cost, cost, costOf, _≼_, HasCost, Least, Entry, along}
 use Rattle.semantics.specs.Paths.Cost.{same-less}
 use Rattle.semantics.specs.Paths.Least.{no-less-cost}
-use Rattle.semantics.specs.Paths.Spread.{path-cost}
+use Rattle.semantics.specs.Paths.Explored.{path-cost}
 use Rattle.semantics.specs.Paths.System.{System, Follows}
 use Rattle.semantics.specs.Paths.Route.{raised, Completes, LowerBound, Routing}
 use Rattle.semantics.specs.Paths.Start.{StartsAt}

@@ -28,6 +28,7 @@ pub mod Ahead
 pub mod Near
 pub mod Spread
 pub mod Passes
+pub mod Settling
 pub mod Priced
 -- The distance as a function.
 pub mod UpTo

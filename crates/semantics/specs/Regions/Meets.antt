@@ -32,7 +32,7 @@ high-bounds w g = go (high-cases w g)
     go (between z e) = omega arith
 
 -- The test compares the middle of the timer's interval, taken twice, with the value taken twice.
-test-middle : (k : Comparison) (v w g : ℕ) → (meetsAt k v w g ≡ true) ↔ Compares k (w + high w g) (v + v)
+pub test-middle : (k : Comparison) (v w g : ℕ) → (meetsAt k v w g ≡ true) ↔ Compares k (w + high w g) (v + v)
 test-middle less v w g =
     let b = high-bounds w g in
     (λ t. omega (arith, ltb-true w v t), λ h. lt-ltb w v (omega arith))

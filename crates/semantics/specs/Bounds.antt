@@ -16,8 +16,6 @@ pub mod Moved
 pub mod Reached
 -- Prices along edges, corner paths.
 pub mod Flow
-pub mod Paths
-pub mod Monotone
 -- The lower bound: runs rounded to chains.
 pub mod Rounding
 pub mod Ticks

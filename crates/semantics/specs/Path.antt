@@ -138,13 +138,6 @@ pub record Best (Comes : List ℕ → ℕ → Type 0) (c : Cost) (labels : List 
   pub least : (ls : List ℕ) (charge : ℕ) → Comes ls charge → c ≼ cost charge (length ls)
   pub first : First (λ ls. Comes ls (c .charge) × (length ls ≡ c .steps)) labels
 
--- A path from v has the labels ls and this charge.
-pub record HasLabels (g : Graph) (v : ℕ) (ls : List ℕ) (charge : ℕ) : Type 0 where
-  pub path : List Edge
-  pub is-path : IsPath g v path
-  pub labelled : labelsOf path ≡ ls
-  pub charged : chargeOf path ≡ charge
-
 -- "The search takes 2E words of 32 bits": the charge of node v stands at 2v, and its steps at 2v + 1. An unreached node has 0xFFFF_FFFF in
 -- both, and no other charge is so high.
 abbrev pub infinity : ℕ

@@ -10,12 +10,11 @@ use native.Mathlib.Decide.{ℕ-discrete}
 use native.Mathlib.Omega.{arith}
 use lib.Dec.{eqb}
 use borrow.Author.Tests.{eq-eqb, eqb-true}
-use Rattle.semantics.specs.Path.{Graph, Cost, cost, Entry, unreached, reached, Best}
+use Rattle.semantics.specs.Path.{Graph, Cost, cost, Entry, unreached, reached}
 use Rattle.semantics.specs.Regions.Compare.{and-true-iff}
 use Rattle.semantics.specs.Paths.FirstSome.{firstSome, Found, firstSome-found}
-use Rattle.semantics.specs.Paths.System.{System, Arrives}
+use Rattle.semantics.specs.Paths.System.{System}
 use Rattle.semantics.specs.Paths.Route.{Completes, LowerBound, Picks, Onward, FirstFrom, Routing, bound-step, completes-onward, first-more, first-none}
-use Rattle.semantics.specs.Paths.Start.{StartsAt, start-completes, start-bound, start-best}
 
 -- Whether a price and an entry add up to c.
 abbrev pub adds : ℕ → Entry → Cost → Bool
@@ -161,11 +160,3 @@ module _ {g : Graph} {s : System} {Valid : s .State → Type 0} {d : ℕ → Ent
           let rest = ih y valid (bound-step r x C n ok bound y (f .place) (p .step)) (p .completes) in
           subst (λ (k : Option (ℕ × s .State)). FirstFrom g s x (cost C (suc n)) (after C n k)) (sym (f .is))
           (first-more r x C n ok bound (f .place) y (greedy s d L C n y) p rest)
-
-  -- From a start state, the greedy reading at the entry of its node is the best of all labels that arrive.
-  pub greedy-best :
-      (x : s .State) (v : ℕ) (c : Cost) → Valid x → StartsAt s x v → d v ≡ reached c
-      → Best (Arrives g s x) c (greedy s d L (c .charge) (c .steps) x)
-  greedy-best x v c ok start q =
-      start-best r x v start ok c q (greedy s d L (c .charge) (c .steps) x)
-      (greedy-first (c .charge) (c .steps) x ok (start-bound r x v start c q) (start-completes r x v start c q))

@@ -8,10 +8,10 @@ use mathlib.Core.Option.{Option, none, some}
 use Prim.Native.Nat.{ℕ, _+_, _≤_, _<_}
 use native.Mathlib.Omega.{arith}
 use lib.ListN.{length, length-map}
-use Rattle.semantics.specs.Path.{Edge, Graph, Leaves, Target, Closed, IsPath, labelsOf, chargeOf, Cost, cost, Best}
+use Rattle.semantics.specs.Path.{Edge, Graph, Leaves, Target, Closed, IsPath, labelsOf, chargeOf, cost}
 use Rattle.semantics.specs.Paths.Cost.{cost-both}
 use Rattle.semantics.specs.Paths.Loops.{short-path}
-use Rattle.semantics.specs.Paths.Labels.{Shortened, Few, best-short}
+use Rattle.semantics.specs.Paths.Labels.{Shortened}
 
 -- A system: its states, the next state by a label if the label is allowed, and for each state the number of its corners, and the node and
 -- the price of each corner.
@@ -180,9 +180,3 @@ module _ (g : Graph) (s : System) (Valid : s .State → Type 0) (laws : Follows 
         few = omega arith;
         within = cost-both (cost (m .price) (length (labelsOf (r .path)))) (cost c (length ls)) (omega arith) (omega arith);
       }
-
-  -- The best of the labels that arrive and are fewer than E is the best of all that arrive, whatever their number.
-  pub best-few :
-      Closed g → (x : s .State) → Valid x → (c : Cost) (ls : List ℕ) → Best (Few (g .nodes) (Arrives g s x)) c ls
-      → Best (Arrives g s x) c ls
-  best-few closed x ok c ls b = best-short (Arrives g s x) (g .nodes) (arrives-short closed x ok) c ls b

@@ -7,7 +7,7 @@ use Prim.Native.Nat.{ℕ}
 use Rattle.semantics.specs.Automaton.{Automaton, modeAt, moveAt}
 use Rattle.semantics.specs.Region.{PricedRegion, leave, arrive, reset}
 use Rattle.semantics.specs.Chain.{Place}
-use Rattle.semantics.specs.CornerPath.{delayEdges, lingerEdges, resetCorner, resetAllCorner, edges, SameShape, SamePlace}
+use Rattle.semantics.specs.Corners.Edges.{delayEdges, lingerEdges, resetCorner, resetAllCorner, edges, SameShape, SamePlace}
 use Rattle.semantics.specs.Regions.Cases.{lingered}
 use Rattle.semantics.specs.Bounds.Steps.{rateAt, movedBy, Stepped, leaves, arrives, lingers, idles, moves}
 use Rattle.semantics.specs.Bounds.Shapes.{shape-sym, shape-trans, shape-linger, shape-leave, shape-arrive, shape-meetsAll, shape-admits, shape-reset, shape-move}

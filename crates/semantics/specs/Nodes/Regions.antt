@@ -8,7 +8,7 @@ use native.Mathlib.Nat.{le-of-mul-le-mul-left}
 use native.Mathlib.Omega.{arith}
 use lib.ListN.{length, getD}
 use Rattle.semantics.specs.Region.{PricedRegion, WellFormed, top, within}
-use Rattle.semantics.specs.Node.{IsCell}
+use Rattle.semantics.specs.Nodes.Node.{IsCell}
 use Rattle.semantics.specs.Regions.Points.{pointOf, region-point, within-points}
 
 module _ (r : PricedRegion) (w : WellFormed r) where

@@ -7,7 +7,7 @@ use mathlib.Core.List.{List, _∷_}
 use Prim.Native.Nat.{ℕ, suc}
 use native.Mathlib.Omega.{arith}
 use lib.ListN.{length}
-use Rattle.semantics.specs.Path.{Cost, cost, _≼_, _≺_, _⊑_, Best}
+use Rattle.semantics.specs.Order.{Cost, cost, _≼_, _≺_, _⊑_, Best}
 use Rattle.semantics.specs.Paths.Cost.{cost-trans, cost-weaken, not-both}
 use Rattle.semantics.specs.Paths.Labels.{labels-trans, best-map}
 

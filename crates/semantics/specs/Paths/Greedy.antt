@@ -2,7 +2,7 @@
 -- from which the cost can be completed. It can be computed, and it gives the first labels of least cost.
 -- Assumes nothing.
 use mathlib.Core.Path.{_≡_, refl, sym, ap, _∙_, subst}
-use mathlib.Core.Bool.{Bool, true, false, _&&_, _||_, or-true}
+use mathlib.Core.Bool.{Bool, true, false, _&&_, _||_, or-true, true≢false}
 use mathlib.Core.List.{List, [], _∷_}
 use mathlib.Core.Option.{Option, none, some}
 use Prim.Native.Nat.{ℕ, zero, suc, _+_, _≤_, _<_}
@@ -10,7 +10,8 @@ use native.Mathlib.Decide.{ℕ-discrete}
 use native.Mathlib.Omega.{arith}
 use lib.Dec.{eqb}
 use borrow.Author.Tests.{eq-eqb, eqb-true}
-use Rattle.semantics.specs.Path.{Graph, Cost, cost, Entry, unreached, reached}
+use Rattle.semantics.specs.Order.{Cost, cost}
+use Rattle.semantics.specs.Graph.Path.{Graph, Entry, unreached, reached}
 use Rattle.semantics.specs.Regions.Compare.{and-true-iff}
 use Rattle.semantics.specs.Paths.FirstSome.{firstSome, Found, firstSome-found}
 use Rattle.semantics.specs.Paths.System.{System}
@@ -47,7 +48,7 @@ module _ (s : System) (d : ℕ → Entry) where
 adds-true :
     (c : Cost) (price : ℕ) (e : Entry) → adds price e c ≡ true
     → (left : ℕ) × (e ≡ reached (cost left (c .steps))) × (price + left ≡ c .charge)
-adds-true c price unreached t = let z : _≡_ {A = ℕ} 0 1 = cc in absurd (omega arith)
+adds-true c price unreached t = absurd (true≢false cc)
 adds-true c price (reached b) t =
     let p = and-true-iff (eqb (price + b .charge) (c .charge)) (eqb (b .steps) (c .steps)) .0 t in
     let n = eqb-true (b .steps) (c .steps) (p .1) in
@@ -63,7 +64,7 @@ module _ (s : System) (d : ℕ → Entry) (x : s .State) (c : Cost) where
   adds-at j = adds (s .price x j) (d (s .node x j)) c
 
   some-true : (n : ℕ) → n ≤ s .corners x → someAdds s d x c n ≡ true → Completes s d x c
-  some-true zero h t = let z : _≡_ {A = ℕ} 0 1 = cc in absurd (omega arith)
+  some-true zero h t = absurd (true≢false cc)
   some-true (suc j) h t = go (adds-at j) refl t (some-true j (omega arith))
     where
       go :

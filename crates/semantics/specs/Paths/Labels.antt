@@ -7,7 +7,7 @@ use Prim.Native.Nat.{ℕ, _<_, _≤_}
 use native.Mathlib.Decide.{decLt}
 use native.Mathlib.Omega.{arith}
 use lib.ListN.{length}
-use Rattle.semantics.specs.Path.{Cost, cost, _≼_, _⊑_, First, Best}
+use Rattle.semantics.specs.Order.{Cost, cost, _≼_, _⊑_, First, Best}
 use Rattle.semantics.specs.Paths.Cost.{cost-trans, cost-antisymm}
 
 pub labels-trans : (ks ls ms : List ℕ) → ks ⊑ ls → ls ⊑ ms → ks ⊑ ms

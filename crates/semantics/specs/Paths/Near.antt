@@ -1,7 +1,7 @@
 -- What is found forwards from a node s up to the least charge of the targets, with what is dearer or farther left out, are the words of a search.
 -- Assumes nothing.
 use mathlib.Core.Path.{_≡_, refl, sym, ap, subst, _∙_}
-use mathlib.Core.Bool.{Bool, true, false, _&&_, cond}
+use mathlib.Core.Bool.{Bool, true, false, _&&_, cond, true≢false}
 use mathlib.Core.Logic.{_⊎_, inl, inr}
 use mathlib.Core.List.{List, [], _∷_, _++_}
 use Prim.Native.Nat.{ℕ, _+_, _*_, _-_, _≤_, _<_}
@@ -10,9 +10,10 @@ use native.Mathlib.Omega.{arith}
 use lib.Dec.{leb}
 use lib.ListN.{length, drop}
 use borrow.Author.Tests.{le-leb, lt-leb}
-use Rattle.semantics.specs.Path.{Edge, Graph, Target, Closed, WeightsWithin, IsPath, Cost, cost, costOf, _≼_, _≺_, HasCost, Least, Entry, unreached, reached, along, chargeAt, table}
-use Rattle.semantics.specs.Distance.{distance, entryWords}
-use Rattle.semantics.specs.Near.{turned, near, nearWords}
+use Rattle.semantics.specs.Order.{Cost, cost, _≼_, _≺_}
+use Rattle.semantics.specs.Graph.Path.{Edge, Graph, Target, Closed, WeightsWithin, IsPath, costOf, HasCost, Least, Entry, unreached, reached, along, chargeAt, table}
+use Rattle.semantics.specs.Graph.Distance.{distance, entryWords}
+use Rattle.semantics.specs.Graph.Near.{turned, near, nearWords}
 use Rattle.semantics.specs.Paths.Cost.{cost-same, cost-antisymm, cost-both, cost-total, cost-charge, less-trans}
 use Rattle.semantics.specs.Paths.Least.{no-less-cost, least-charge, least-reached}
 use Rattle.semantics.specs.Paths.Words.{reached-words, unreached-words}
@@ -31,7 +32,7 @@ pub record BestTarget (g : Graph) (ws : List ℕ) (b : Entry) : Type 0 where
 
 -- No entry is both unreached and reached.
 not-reached : (x : Entry) (c : Cost) → x ≡ unreached → x ≡ reached c → ⊥
-not-reached x c p q = let z : _≡_ {A = ℕ} 0 1 = cc in omega arith
+not-reached x c p q = true≢false cc
 
 -- What is more than the other entry is left out.
 near-more : (b c : Cost) → b ≺ c → near (reached b) (reached c) ≡ unreached

@@ -3,12 +3,14 @@
 -- least price. So a list of labels stands for several parallel paths, and the price of a corner is the least of theirs.
 -- Assumes nothing.
 use mathlib.Core.Path.{_≡_, refl, sym, _∙_, ap}
+use mathlib.Core.Bool.{true≢false}
 use mathlib.Core.List.{List, [], _∷_}
 use mathlib.Core.Option.{Option, none, some}
 use Prim.Native.Nat.{ℕ, _+_, _≤_, _<_}
 use native.Mathlib.Omega.{arith}
 use lib.ListN.{length, length-map}
-use Rattle.semantics.specs.Path.{Edge, Graph, Leaves, Target, Closed, IsPath, labelsOf, chargeOf, cost}
+use Rattle.semantics.specs.Order.{cost}
+use Rattle.semantics.specs.Graph.Path.{Edge, Graph, Leaves, Target, Closed, IsPath, labelsOf, chargeOf}
 use Rattle.semantics.specs.Paths.Cost.{cost-both}
 use Rattle.semantics.specs.Paths.Loops.{short-path}
 use Rattle.semantics.specs.Paths.Labels.{Shortened}
@@ -105,7 +107,7 @@ module _ (g : Graph) (s : System) where
       go :
           (o : Option (s .State)) → s .step l x ≡ o → (elim o [ none ↦ none | some y ↦ follow s ls y ]) ≡ some (a .last)
           → (y : s .State) × (s .step l x ≡ some y) × Arrives g s y ls c
-      go none e f = let z : _≡_ {A = ℕ} 0 1 = cc in absurd (omega arith)
+      go none e f = absurd (true≢false cc)
       go (some y) e f = (
         y,
         e,

@@ -1,6 +1,6 @@
--- Corner paths: how prices pass from corner to corner along a chain. Document 01, "Priced regions", lets delay, linger, reset and charge
+-- Corner edges: how prices pass from corner to corner along a chain. Document 01, "Priced regions", lets delay, linger, reset and charge
 -- drop a price, keep it, add to it, or take the smaller of two. So a step has edges from the corners of a region to the corners of the next,
--- each with a weight, and a price after the step is the least sum of a price before it and the weight of an edge (Bounds.Flow, Bounds.Paths).
+-- each with a weight, and a price after the step is the least sum of a price before it and the weight of an edge (Bounds.Flow).
 -- Edges go by the mode, the whole parts, the groups and the number of the prices, and not by the prices (Bounds.Alike).
 -- Assumes nothing.
 use mathlib.Core.Path.{_≡_}

@@ -1,7 +1,7 @@
 -- What a chain keeps for its next step, and that a search that answers with a number of nodes had words for them.
 -- Assumes nothing.
 use mathlib.Core.Path.{_≡_, refl, sym, ap, subst}
-use mathlib.Core.Bool.{true}
+use mathlib.Core.Bool.{true, true≢false}
 use mathlib.Core.List.{List}
 use mathlib.Core.Option.{Option, none, some}
 use Prim.Native.Nat.{ℕ, zero, suc, _+_, _*_, _≤_}
@@ -69,7 +69,7 @@ module _ (t : Table) (h : IsTable t) where
     where
       go :
           (o : Option Place) → step (automatonOf t) byte (viewPlace s) ≡ o → r ≡ packStep s o → r .allowed ≡ true → Stands t (n + 1) (r .place)
-      go none q e allowed = absurd (let z : _≡_ {A = ℕ} 0 1 = cc in omega arith)
+      go none q e allowed = absurd (true≢false cc)
       go (some p) q e allowed =
           let o = step-at t h s (k .held) byte p q in
           let prices : PricesBelow (mostPrice * (n + 1)) p =

@@ -1,7 +1,7 @@
 -- What a step of a script keeps, so that the next step may be made; and what is asked of the words of a table that was searched.
 -- Assumes nothing.
 use Prim.Native.Nat.{ℕ, _+_, _*_, _≤_}
-use Rattle.semantics.specs.Node.{nodeCount}
+use Rattle.semantics.specs.NodeCount.{nodeCount}
 use Rattle.reader.specs.declared.Table.{Table}
 use Rattle.reader.specs.Held.{IsTable}
 use Rattle.regions.specs.declared.Region.{Region}

@@ -8,8 +8,9 @@ use native.Mathlib.Omega.{arith}
 use lib.ListN.{length, getD, take}
 use lib.Seq.{length-take-le}
 use Rattle.semantics.specs.Region.{PricedRegion}
-use Rattle.semantics.specs.Corner.{cornerOf, cornerCount, cornerNumber, cornerAt}
-use Rattle.semantics.specs.Node.{factor, cellCount, cellNumber, cellAt, nodeOf, nodeNumber, nodeAt}
+use Rattle.semantics.specs.NodeCount.{cornerCount, factor, cellCount}
+use Rattle.semantics.specs.Corners.Corner.{cornerOf, cornerNumber, cornerAt}
+use Rattle.semantics.specs.Nodes.Node.{cellNumber, cellAt, nodeOf, nodeNumber, nodeAt}
 use Rattle.regions.specs.declared.Region.{Region}
 use Rattle.regions.specs.declared.nodes.NodeAt.{NodeAt}
 use Rattle.regions.specs.Held.{pad, packCorner}

@@ -9,7 +9,8 @@ use borrow.Author.Tests.{eqb-true}
 use lib.Dec.{eqb}
 use lib.ListN.{getD}
 use Rattle.semantics.specs.Region.{PricedRegion}
-use Rattle.semantics.specs.Corner.{Corner, cornerOf, corners, cornerCount, sameList, cornerNumber, cornerAt}
+use Rattle.semantics.specs.NodeCount.{cornerCount}
+use Rattle.semantics.specs.Corners.Corner.{Corner, cornerOf, corners, sameList, cornerNumber, cornerAt}
 use Rattle.semantics.specs.Regions.Compare.{and-true-iff}
 use Rattle.semantics.specs.Corners.Every.{everyFrom, every-at}
 use Rattle.semantics.specs.Corners.Count.{corners-length}

@@ -4,8 +4,8 @@ use mathlib.Core.Path.{_≡_}
 use Prim.Native.Nat.{ℕ, suc, _+_, _≤_, _<_, _^_}
 use lib.ListN.{length, getD, take}
 use Rattle.semantics.specs.Region.{PricedRegion, WellFormed, top}
-use Rattle.semantics.specs.Corner.{Corner}
-pub use Rattle.semantics.specs.CornerGraph.{highest}
+use Rattle.semantics.specs.Corners.Corner.{Corner}
+pub use Rattle.semantics.specs.Graph.CornerGraph.{highest}
 pub use Rattle.reader.specs.Held.{pad}
 use Rattle.regions.specs.declared.Region.{Region}
 use Rattle.regions.specs.declared.CornerAt.{CornerAt}

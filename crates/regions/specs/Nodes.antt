@@ -6,7 +6,8 @@ use mathlib.Core.List.{List}
 use Prim.Native.Nat.{ℕ, _≤_}
 use lib.Dec.{leb}
 use lib.ListN.{getD, take}
-use Rattle.semantics.specs.Node.{Node, factor}
+use Rattle.semantics.specs.NodeCount.{factor}
+use Rattle.semantics.specs.Nodes.Node.{Node}
 use Rattle.regions.specs.declared.nodes.Nodes.{Nodes}
 use Rattle.regions.specs.declared.nodes.Nodes.the-variants.{Count, TooMany}
 use Rattle.regions.specs.declared.nodes.NodeAt.{NodeAt}

@@ -4,7 +4,8 @@ ghost use mathlib.Core.Bool.{true, false};
 ghost use Prim.Native.Nat.{_<_, _≤_, max};
 ghost use lib.ListN.{take};
 ghost use Rattle.semantics.specs.Region.{noZero, alone, start, leave, arrive, delay, linger, reset, resetAll, charge, meets, within};
-ghost use Rattle.semantics.specs.Corner.{cornerCount, cornerOf, cornerNumber, cornerAt};
+ghost use Rattle.semantics.specs.NodeCount.{cornerCount};
+ghost use Rattle.semantics.specs.Corners.Corner.{cornerOf, cornerNumber, cornerAt};
 ghost use Rattle.reader.specs.Meaning.{namedTimers, conditionOf};
 ghost use Rattle.regions.specs.Held.{mostTimers, pack, view, Valid, PriceRoom, WholeRoom, packCorner};
 

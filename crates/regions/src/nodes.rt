@@ -2,8 +2,8 @@
 ghost use mathlib.Core.Path.{_≡_};
 ghost use Prim.Native.Nat.{_+_, _*_, _%_, _<_, _≤_};
 ghost use lib.ListN.{length, take};
-ghost use Rattle.semantics.specs.Corner.{cornerCount};
-ghost use Rattle.semantics.specs.Node.{cellCount, cellNumber, cellAt, nodeOf, nodeCount, nodeNumber, nodeAt};
+ghost use Rattle.semantics.specs.NodeCount.{cornerCount, cellCount, nodeCount};
+ghost use Rattle.semantics.specs.Nodes.Node.{cellNumber, cellAt, nodeOf, nodeNumber, nodeAt};
 ghost use Rattle.reader.specs.Meaning.{automaton};
 ghost use Rattle.reader.specs.Held.{IsTable, fields};
 ghost use Rattle.regions.specs.Held.{mostTimers, view, Valid};

@@ -8,9 +8,10 @@ use native.Mathlib.Omega.{arith}
 use borrow.Author.Tests.{eq-eqb, ne-eqb, le-leb, lt-leb}
 use lib.ListN.{length, drop}
 use Rattle.semantics.specs.Automaton.{Automaton, Proper}
-use Rattle.semantics.specs.Path.{Cost, cost, unreached, reached, infinity, table}
-use Rattle.semantics.specs.Node.{nodeCount}
-use Rattle.semantics.specs.Distance.{distance}
+use Rattle.semantics.specs.Order.{Cost, cost}
+use Rattle.semantics.specs.Graph.Path.{unreached, reached, infinity, table}
+use Rattle.semantics.specs.NodeCount.{nodeCount}
+use Rattle.semantics.specs.Graph.Distance.{distance}
 use Rattle.semantics.specs.Chain.{begin}
 use Rattle.semantics.specs.Answer.{Answer as Best, route, answer}
 use Rattle.semantics.specs.Paths.Near.{near-best}

@@ -7,12 +7,13 @@ use native.Mathlib.Omega.{arith}
 use lib.ListN.{length, getD, drop, replicate, length-append, length-drop}
 use lib.Seq.{drop-at}
 use Rattle.semantics.specs.Automaton.{Automaton}
-use Rattle.semantics.specs.Corner.{countFrom, flatMap}
-use Rattle.semantics.specs.Path.{Graph, Entry, unreached, reached}
-use Rattle.semantics.specs.Node.{nodeCount}
-use Rattle.semantics.specs.Distance.{distance, entryWords}
-use Rattle.semantics.specs.Near.{turned, near, nearWords}
-use Rattle.semantics.specs.CornerGraph.{startNode, cornerGraph}
+use Rattle.semantics.specs.Answer.{countFrom}
+use Rattle.semantics.specs.Corners.Corner.{flatMap}
+use Rattle.semantics.specs.Graph.Path.{Graph, Entry, unreached, reached}
+use Rattle.semantics.specs.NodeCount.{nodeCount}
+use Rattle.semantics.specs.Graph.Distance.{distance, entryWords}
+use Rattle.semantics.specs.Graph.Near.{turned, near, nearWords}
+use Rattle.semantics.specs.Graph.CornerGraph.{startNode, cornerGraph}
 use Rattle.semantics.specs.Answers.Graph.{graph-nodes}
 use Rattle.reader.specs.declared.Table.{Table}
 use Rattle.reader.specs.declared.Reading.{Reading}

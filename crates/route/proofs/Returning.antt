@@ -8,10 +8,10 @@ use native.Mathlib.Numerals.{add-one}
 use native.Mathlib.Omega.{arith}
 use lib.ListN.{length, getD, take, drop}
 use lib.Seq.{take-length}
-use Rattle.semantics.specs.Path.{infinity, table}
-use Rattle.semantics.specs.Node.{nodeCount}
+use Rattle.semantics.specs.Graph.Path.{infinity, table}
+use Rattle.semantics.specs.NodeCount.{nodeCount}
 use Rattle.semantics.specs.Chain.{chain}
-use Rattle.semantics.specs.CornerGraph.{numberOf}
+use Rattle.semantics.specs.Graph.CornerGraph.{numberOf}
 use Rattle.semantics.specs.Bounds.Prices.{price}
 use Rattle.semantics.specs.Bounds.Reached.{chain-reached}
 use Rattle.semantics.specs.Answers.Places.{number-below}

@@ -10,8 +10,9 @@ use native.Mathlib.Omega.{arith}
 use lib.ListN.{length, take, drop, set, replicate, length-append, length-set, length-replicate, take-append-drop}
 use lib.Seq.{length-take-le, take-suc-set, drop-set-lt}
 use Rattle.semantics.specs.Automaton.{Proper}
-use Rattle.semantics.specs.Path.{Cost, infinity, table}
-use Rattle.semantics.specs.Node.{nodeCount}
+use Rattle.semantics.specs.Order.{Cost}
+use Rattle.semantics.specs.Graph.Path.{infinity, table}
+use Rattle.semantics.specs.NodeCount.{nodeCount}
 use Rattle.semantics.specs.Chain.{Place, step, follow, begin, chain}
 use Rattle.semantics.specs.Regions.Lengths.{prices-top}
 use Rattle.semantics.specs.Bounds.Prices.{price}

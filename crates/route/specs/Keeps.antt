@@ -1,8 +1,8 @@
--- The outcome of the definitions keeps demand 3.
+-- The outcome of the definitions keeps demands 2 and 3.
 -- Assumes nothing.
 use mathlib.Core.Path.{_≡_, refl, sym, ap, subst, _∙_}
 use mathlib.Core.Logic.{_↔_, _≢_}
-use mathlib.Core.Bool.{Bool, true, false, cond}
+use mathlib.Core.Bool.{Bool, true, false, cond, true≢false}
 use mathlib.Core.List.{List, _++_}
 use Prim.Native.Nat.{ℕ, _*_}
 use native.Mathlib.Omega.{arith}
@@ -11,32 +11,27 @@ use lib.Dec.{leb}
 use lib.ListN.{length, drop, take}
 use lib.Seq.{take-append-seam}
 use Rattle.semantics.specs.Automaton.{Automaton, Proper}
-use Rattle.semantics.specs.Node.{nodeCount}
+use Rattle.semantics.specs.NodeCount.{nodeCount}
 use Rattle.semantics.specs.Chain.{movesOf}
+use Rattle.semantics.specs.Order.{cost, Best}
 use Rattle.semantics.specs.Demand.{AtLeast, Approached, NoRun}
-use Rattle.semantics.specs.Answer.{Answer as Best, noRoute, route, answer, MeetsDemand}
-use Rattle.semantics.specs.Answers.Demand.{answer-demand}
+use Rattle.semantics.specs.Answer.{Comes, NoChain, Answer as Found, noRoute, route, answer}
+use Rattle.semantics.specs.Answers.Best.{answer-best}
+use Rattle.semantics.specs.Answers.Demand.{answer-no-chain, answer-no-run, answer-at-least, answer-approached}
 use Rattle.reader.specs.Fields.{Fields}
 use Rattle.reader.specs.Meaning.{automaton}
 use Rattle.reader.specs.Read.{Judgement, accepted, rejected, read}
 use Rattle.reader.specs.Theorems.Proper.{accepted-proper}
 use Rattle.reader.specs.Theorems.Refusals.{rejected-range}
-use Rattle.search.specs.Outcome.{mostNodes}
+use Rattle.search.specs.Outcome.{mostNodes, answered, cleared}
 use Rattle.search.specs.declared.Searched.the-variants.{Nodes as Searched·Nodes, Refused as Searched·Refused}
-use Rattle.search.specs.Outcome.{answered, cleared}
+use Rattle.route.specs.declared.Answer.{Answer}
 use Rattle.route.specs.declared.Answer.the-variants.{Refused, NoRoute, Route}
 use Rattle.route.specs.Plan.{Outcome, outcome, routed, afterRoom, plannedTable, judged, planned}
 use Rattle.route.specs.Promise.{IsSearched, KeepsDemand}
 
--- Neither a refusal nor no route reports a charge.
-never-route : (C n k : ℕ) → Refused k ≡ Route C n → ⊥
-never-route C n k e = let z : _≡_ {A = ℕ} 0 1 = cc in omega arith
-
-none-route : (C n : ℕ) → NoRoute ≡ Route C n → ⊥
-none-route C n e = let z : _≡_ {A = ℕ} 0 1 = cc in omega arith
-
 module _ (bytes : List ℕ) (lent : ℕ) where
-  -- The outcome keeps the demand.
+  -- The outcome keeps the demands.
   abbrev Keeps : Outcome → Type 0
   Keeps o = KeepsDemand bytes lent (o .route) (o .answer)
 
@@ -49,70 +44,98 @@ module _ (bytes : List ℕ) (lent : ℕ) where
   -- A refusal before the search, by another number than 10.
   refused-keeps : (rs : List ℕ) (n : ℕ) → n ≢ 10 → ((a : Automaton) → IsSearched bytes lent a → ⊥) → KeepsDemand bytes lent rs (Refused n)
   refused-keeps rs n other none = record {
-    reported = λ C k e. absurd (never-route C k n e);
-    at-least = λ C k e. absurd (never-route C k n e);
-    approached = λ C k e. absurd (never-route C k n e);
+    reported = λ C k e. absurd (true≢false cc);
+    best = λ C k e a s. absurd (none a s);
+    no-chain = λ a s. absurd (none a s);
+    at-least = λ C k e a s. absurd (none a s);
+    approached = λ C k e a s. absurd (none a s);
     no-route = λ a s. absurd (none a s);
     ten = λ e. absurd (other (cc e));
   }
 
   -- After a search: what holds of the automaton in hand holds of every one.
-  module _ (a : Automaton) (s : IsSearched bytes lent a) where
+  module _ (a : Automaton) (ok : Proper a) (s : IsSearched bytes lent a) where
     others : (P : Automaton → Type 0) → P a → (b : Automaton) → IsSearched bytes lent b → P b
     others P p b t = subst P (one-automaton a b s t) p
 
-    some-run : (C : ℕ) (ks : List ℕ) → MeetsDemand a (a .goal) (route C ks) → NoRun a (a .goal) → ⊥
-    some-run C ks m none = let e = m .no-run .1 none in let z : _≡_ {A = ℕ} 0 1 = cc in omega arith
+    -- An answer that is no route exactly if the definitions have none.
+    module _ (r : Answer) (same : (r ≡ NoRoute) ↔ (answer a (a .goal) ≡ noRoute)) where
+      same-chains : (b : Automaton) → IsSearched bytes lent b → (r ≡ NoRoute) ↔ NoChain b (b .goal)
+      same-chains =
+          let k = answer-no-chain a ok (a .goal) in
+          others (λ b. (r ≡ NoRoute) ↔ NoChain b (b .goal)) (λ e. k .0 (same .0 e), λ n. same .1 (k .1 n))
 
-    none-keeps : (rs : List ℕ) → MeetsDemand a (a .goal) noRoute → KeepsDemand bytes lent rs NoRoute
-    none-keeps rs m = record {
-      reported = λ C k e. absurd (none-route C k e);
-      at-least = λ C k e. absurd (none-route C k e);
-      approached = λ C k e. absurd (none-route C k e);
-      no-route = others (λ b. (NoRoute ≡ NoRoute) ↔ NoRun b (b .goal)) (λ e. m .no-run .0 refl, λ n. refl);
-      ten = λ e. absurd (let z : _≡_ {A = ℕ} 0 1 = cc in omega arith);
-    }
+      same-runs : (b : Automaton) → IsSearched bytes lent b → (r ≡ NoRoute) ↔ NoRun b (b .goal)
+      same-runs =
+          let k = answer-no-run a ok (a .goal) in
+          others (λ b. (r ≡ NoRoute) ↔ NoRun b (b .goal)) (λ e. k .0 (same .0 e), λ n. same .1 (k .1 n))
 
-    ten-keeps : (rs : List ℕ) (C : ℕ) (ks : List ℕ) → MeetsDemand a (a .goal) (route C ks) → KeepsDemand bytes lent rs (Refused 10)
-    ten-keeps rs C ks m = record {
-      reported = λ D k e. absurd (never-route D k 10 e);
-      at-least = λ D k e. absurd (never-route D k 10 e);
-      approached = λ D k e. absurd (never-route D k 10 e);
-      no-route = others (λ b. (Refused 10 ≡ NoRoute) ↔ NoRun b (b .goal))
-          (λ e. absurd (let z : _≡_ {A = ℕ} 0 1 = cc in omega arith), λ n. absurd (some-run C ks m n));
-      ten = λ e. (a, s, some-run C ks m);
+    none-keeps : (rs : List ℕ) → answer a (a .goal) ≡ noRoute → KeepsDemand bytes lent rs NoRoute
+    none-keeps rs is = record {
+      reported = λ C k e. absurd (true≢false cc);
+      best = λ C k e. absurd (true≢false cc);
+      no-chain = same-chains NoRoute same;
+      at-least = λ C k e. absurd (true≢false cc);
+      approached = λ C k e. absurd (true≢false cc);
+      no-route = same-runs NoRoute same;
+      ten = λ e. absurd (true≢false cc);
     }
+      where
+        same : (NoRoute ≡ NoRoute) ↔ (answer a (a .goal) ≡ noRoute)
+        same = (λ e. is, λ e. refl)
 
-    route-keeps :
-        (rs : List ℕ) (C : ℕ) (ks : List ℕ) → MeetsDemand a (a .goal) (route C ks)
-        → KeepsDemand bytes lent (ks ++ rs) (Route C (length ks))
-    route-keeps rs C ks m = record {
-      reported = λ D k e. (a, s);
-      at-least = λ D k e.
-          let q : C ≡ D = cc in
-          others (λ b. AtLeast b (b .goal) D) (subst (AtLeast a (a .goal)) q (m .at-least C ks refl));
-      approached = λ D k e.
-          let q : C ≡ D = cc in
-          let counted : length ks ≡ k = cc in
-          let front : ks ≡ take k (ks ++ rs) = sym (ap (λ (j : ℕ). take j (ks ++ rs)) (sym counted) ∙ take-append-seam ks rs) in
-          others (λ b. Approached b (b .goal) (movesOf (take k (ks ++ rs))) D)
-          (subst (λ (js : List ℕ). Approached a (a .goal) (movesOf js) D) front
-          (subst (Approached a (a .goal) (movesOf ks)) q (m .approached C ks refl)));
-      no-route = others (λ b. (Route C (length ks) ≡ NoRoute) ↔ NoRun b (b .goal))
-          (λ e. absurd (none-route C (length ks) (sym e)), λ n. absurd (some-run C ks m n));
-      ten = λ e. absurd (never-route C (length ks) 10 (sym e));
-    }
+    module _ (C : ℕ) (ks : List ℕ) (is : answer a (a .goal) ≡ route C ks) where
+      -- Neither a route nor 10 is no route.
+      no-none : (r : Answer) → (r ≡ NoRoute → ⊥) → (r ≡ NoRoute) ↔ (answer a (a .goal) ≡ noRoute)
+      no-none r other = (λ e. absurd (other e), λ e. absurd (true≢false cc))
+
+      ten-keeps : (rs : List ℕ) → KeepsDemand bytes lent rs (Refused 10)
+      ten-keeps rs = record {
+        reported = λ D k e. absurd (true≢false cc);
+        best = λ D k e. absurd (true≢false cc);
+        no-chain = same-chains (Refused 10) none;
+        at-least = λ D k e. absurd (true≢false cc);
+        approached = λ D k e. absurd (true≢false cc);
+        no-route = same-runs (Refused 10) none;
+        ten = λ e. (a, s, λ n. let q = answer-no-run a ok (a .goal) .1 n in true≢false cc);
+      }
+        where
+          none : (Refused 10 ≡ NoRoute) ↔ (answer a (a .goal) ≡ noRoute)
+          none = no-none (Refused 10) (λ e. true≢false cc)
+
+      route-keeps : (rs : List ℕ) → KeepsDemand bytes lent (ks ++ rs) (Route C (length ks))
+      route-keeps rs = record {
+        reported = λ D k e. (a, s);
+        best = λ D k e. others (λ b. Best (Comes b (b .goal)) (cost D k) (take k (ks ++ rs))) (told (λ D k js. Best (Comes a (a .goal)) (cost D k) js) D k e (answer-best a ok (a .goal) C ks .0 is));
+        no-chain = same-chains (Route C (length ks)) none;
+        at-least = λ D k e. others (λ b. AtLeast b (b .goal) D) (told (λ D k js. AtLeast a (a .goal) D) D k e (answer-at-least a ok (a .goal) C ks is));
+        approached = λ D k e.
+            others (λ b. Approached b (b .goal) (movesOf (take k (ks ++ rs))) D)
+            (told (λ D k js. Approached a (a .goal) (movesOf js) D) D k e (answer-approached a ok (a .goal) C ks is));
+        no-route = same-runs (Route C (length ks)) none;
+        ten = λ e. absurd (true≢false cc);
+      }
+        where
+          none : (Route C (length ks) ≡ NoRoute) ↔ (answer a (a .goal) ≡ noRoute)
+          none = no-none (Route C (length ks)) (λ e. true≢false cc)
+
+          -- What holds of the charge, the steps and the route holds of what is reported.
+          told : (P : ℕ → ℕ → List ℕ → Type 0) (D k : ℕ) → Route C (length ks) ≡ Route D k → P C (length ks) ks → P D k (take k (ks ++ rs))
+          told P D k e p =
+              let charged : C ≡ D = cc in
+              let counted : length ks ≡ k = cc in
+              rw (← charged, ← counted, take-append-seam ks rs) p
 
     -- The answer of the definitions, with the route bytes lent for it.
-    routed-keeps : (x : Best) (ws rs : List ℕ) → MeetsDemand a (a .goal) x → Keeps (routed a x ws rs)
-    routed-keeps noRoute ws rs m = none-keeps rs m
-    routed-keeps (route C ks) ws rs m = go (leb (length ks) (length rs))
+    routed-keeps : (x : Found) → answer a (a .goal) ≡ x → (ws rs : List ℕ) → Keeps (routed a x ws rs)
+    routed-keeps noRoute is ws rs = none-keeps rs is
+    routed-keeps (route C ks) is ws rs = go (leb (length ks) (length rs))
       where
         go :
             (b : Bool)
             → Keeps (cond b (outcome (Route C (length ks)) (cleared a ws) (ks ++ drop (length ks) rs)) (outcome (Refused 10) (cleared a ws) rs))
-        go true = route-keeps (drop (length ks) rs) C ks m
-        go false = ten-keeps rs C ks m
+        go true = route-keeps C ks is (drop (length ks) rs)
+        go false = ten-keeps C ks is rs
 
   -- The room for the search, of a table that was read.
   module _ (a : Automaton) (f : Fields) (is : a ≡ automaton f) (read-as : read bytes ≡ accepted f) where
@@ -126,14 +149,14 @@ module _ (bytes : List ℕ) (lent : ℕ) where
             (b : Bool) → leb (nodeCount a) mostNodes ≡ b → (d : Bool) → leb (2 * nodeCount a) lent ≡ d
             → Keeps (afterRoom (cond b (cond d (Searched·Nodes (nodeCount a)) (Searched·Refused 9)) (Searched·Refused 8)) a ws rs)
         go true q true h =
-            routed-keeps a
+            routed-keeps a (subst Proper (sym is) (accepted-proper bytes f read-as))
             (record {
               fields = f;
               is-accepted = read-as;
               is-automaton = is;
               few = leb-true (nodeCount a) mostNodes q;
               room = leb-true (2 * nodeCount a) lent h;
-            }) (answer a (a .goal)) ws rs (answer-demand a (subst Proper (sym is) (accepted-proper bytes f read-as)) (a .goal))
+            }) (answer a (a .goal)) refl ws rs
         go true q false h =
             refused-keeps rs 9 (λ e. omega arith) (λ b t. omega (arith, same-nodes b t, t .room, leb-false (2 * nodeCount a) lent h))
         go false q d h =
@@ -147,5 +170,5 @@ planned-keeps bytes ws rs = go (read bytes) refl
     go : (j : Judgement) → read bytes ≡ j → Keeps bytes (length ws) (judged j ws rs)
     go (rejected n) e =
         refused-keeps bytes (length ws) rs n (λ q. omega (arith, rejected-range bytes n e))
-        (λ b t. let k = t .is-accepted in let z : _≡_ {A = ℕ} 0 1 = cc in omega arith)
+        (λ b t. let k = t .is-accepted in true≢false cc)
     go (accepted f) e = room-keeps bytes (length ws) (automaton f) f refl e ws rs

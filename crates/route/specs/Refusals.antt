@@ -1,14 +1,14 @@
 -- Planning refuses by the numbers 1 to 10 and by no other.
 -- Assumes nothing.
 use mathlib.Core.Path.{_≡_, refl}
-use mathlib.Core.Bool.{Bool, true, false, cond}
+use mathlib.Core.Bool.{Bool, true, false, cond, true≢false}
 use mathlib.Core.List.{List, _++_}
 use Prim.Native.Nat.{ℕ, _*_, _≤_}
 use native.Mathlib.Omega.{arith}
 use lib.Dec.{leb}
 use lib.ListN.{length, drop}
 use Rattle.semantics.specs.Automaton.{Automaton}
-use Rattle.semantics.specs.Node.{nodeCount}
+use Rattle.semantics.specs.NodeCount.{nodeCount}
 use Rattle.semantics.specs.Answer.{Answer as Best, noRoute, route, answer}
 use Rattle.reader.specs.Meaning.{automaton}
 use Rattle.reader.specs.Read.{Judgement, accepted, rejected, read}
@@ -27,12 +27,12 @@ refused-in k ws rs low high n e = let q : k ≡ n = cc in (omega arith, omega ar
 
 module _ (a : Automaton) (ws rs : List ℕ) where
   routed-in : (b : Best) → InRange (routed a b ws rs)
-  routed-in noRoute n e = absurd (let z : _≡_ {A = ℕ} 0 1 = cc in omega arith)
+  routed-in noRoute n e = absurd (true≢false cc)
   routed-in (route C ks) n e = go (leb (length ks) (length rs)) n e
     where
       go : (t : Bool)
           → InRange (cond t (outcome (Route C (length ks)) (cleared a ws) (ks ++ drop (length ks) rs)) (outcome (Refused 10) (cleared a ws) rs))
-      go true n e = absurd (let z : _≡_ {A = ℕ} 0 1 = cc in omega arith)
+      go true n e = absurd (true≢false cc)
       go false n e = refused-in 10 (cleared a ws) rs (omega arith) (omega arith) n e
 
   table-in : InRange (plannedTable a ws rs)

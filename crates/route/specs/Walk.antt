@@ -6,9 +6,10 @@ use mathlib.Core.List.{List, _++_}
 use mathlib.Core.Option.{some}
 use Prim.Native.Nat.{ℕ, _+_, _*_, _-_, _%_, _≤_, _<_}
 use lib.ListN.{length, getD, take, drop}
-use Rattle.semantics.specs.Node.{nodeCount}
-use Rattle.semantics.specs.Path.{Cost, reached, table}
-use Rattle.semantics.specs.Distance.{distance}
+use Rattle.semantics.specs.NodeCount.{nodeCount}
+use Rattle.semantics.specs.Order.{Cost}
+use Rattle.semantics.specs.Graph.Path.{reached, table}
+use Rattle.semantics.specs.Graph.Distance.{distance}
 use Rattle.semantics.specs.Chain.{Place, step, begin, chain}
 use Rattle.semantics.specs.Answer.{route, answer}
 use Rattle.semantics.specs.Answers.Walk.{NearCosts}

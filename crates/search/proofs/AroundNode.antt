@@ -6,10 +6,10 @@ use Prim.Native.Nat.{ℕ, zero, suc, pred, _+_, _-_, _≤_, _<_}
 use native.Mathlib.Omega.{arith}
 use lib.ListN.{length, getD, take, length-replicate}
 use Rattle.semantics.specs.Region.{PricedRegion, top}
-use Rattle.semantics.specs.Corner.{countFrom}
-use Rattle.semantics.specs.Node.{Node, IsNode, nodeAt}
+use Rattle.semantics.specs.Answer.{countFrom}
+use Rattle.semantics.specs.Nodes.Node.{Node, IsNode, nodeAt}
 use Rattle.semantics.specs.Chain.{Place}
-use Rattle.semantics.specs.CornerGraph.{highest, nodePlace, numberOf}
+use Rattle.semantics.specs.Graph.CornerGraph.{highest, nodePlace, numberOf}
 use Rattle.semantics.specs.Regions.Groups.{groups-few}
 use Rattle.semantics.specs.Corners.Lists.{length-countFrom}
 use Rattle.semantics.specs.Nodes.Number.{nodeAt-node}

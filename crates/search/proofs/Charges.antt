@@ -5,8 +5,8 @@ use mathlib.Core.List.{List}
 use Prim.Native.Nat.{ℕ, _≤_}
 use native.Mathlib.Decide.{ℕ-discrete}
 use native.Mathlib.Omega.{arith}
-use Rattle.semantics.specs.Path.{Graph, infinity, chargeAt}
-use Rattle.semantics.specs.Near.{turned}
+use Rattle.semantics.specs.Graph.Path.{Graph, infinity, chargeAt}
+use Rattle.semantics.specs.Graph.Near.{turned}
 use Rattle.semantics.specs.Paths.Turned.{turned-nodes, turned-closed, turned-light}
 use Rattle.semantics.specs.Paths.Sound.{Sound, sound-bound}
 use Rattle.semantics.specs.Paths.Ahead.{Charges}

@@ -8,10 +8,9 @@ use Prim.Native.Nat.{ℕ, zero, suc, _+_, _*_, _-_, _/_, _≤_, _<_}
 use native.Mathlib.Nat.{mul-assoc, suc-mul, mul-le-mul-right, le-div-iff-mul-le, div-lt-iff-lt-mul}
 use native.Mathlib.Omega.{arith}
 use lib.ListN.{length, getD}
-use Rattle.semantics.specs.Corner.{cornerCount}
-use Rattle.semantics.specs.Node.{cellCount, nodeCount}
-use Rattle.semantics.specs.Path.{Edge, Leaves, Target, infinity, chargeAt}
-use Rattle.semantics.specs.Near.{turned}
+use Rattle.semantics.specs.NodeCount.{cornerCount, cellCount, nodeCount}
+use Rattle.semantics.specs.Graph.Path.{Edge, Leaves, Target, infinity, chargeAt}
+use Rattle.semantics.specs.Graph.Near.{turned}
 use Rattle.semantics.specs.Answers.Graph.{graph-nodes}
 use Rattle.semantics.specs.Answers.Modes.{modeOfNode, graph-block}
 use Rattle.semantics.specs.Paths.Update.{Update, update-none, update-then}

@@ -6,7 +6,7 @@ use Prim.Native.Nat.{ℕ, _+_, _≤_, _<_}
 use native.Mathlib.Decide.{ℕ-discrete}
 use native.Mathlib.Omega.{arith}
 use lib.ListN.{getD}
-use Rattle.semantics.specs.Path.{Graph, infinity}
+use Rattle.semantics.specs.Graph.Path.{Graph, infinity}
 use Rattle.search.specs.Edges.{OfferAt, Offered, OfferMade, Sent, SentOn, edgeTo, delayWeight, DelayAt, DelayDone}
 use Rattle.search.proofs.Offers.{sent-none, offer-end}
 use Rattle.search.proofs.Sending.{Lesser, sent-then, sent-kept, sent-new}

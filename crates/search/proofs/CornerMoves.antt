@@ -5,7 +5,7 @@ use mathlib.Core.List.{List}
 use Prim.Native.Nat.{ℕ, _+_, _≤_, _<_}
 use native.Mathlib.Decide.{ℕ-discrete, decLt}
 use native.Mathlib.Omega.{arith}
-use Rattle.semantics.specs.Path.{Graph, infinity}
+use Rattle.semantics.specs.Graph.Path.{Graph, infinity}
 use Rattle.search.specs.Edges.{OfferAt, Offered, OfferMade, Sent, SentOn, LastAtMost, edgeTo, MoveAt, MoveDone}
 use Rattle.search.proofs.Offers.{sent-none, offer-end}
 use Rattle.search.proofs.Sending.{Lesser, sent-then, sent-kept, sent-new}

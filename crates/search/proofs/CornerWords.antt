@@ -10,10 +10,10 @@ use native.Mathlib.Omega.{arith}
 use borrow.Author.Tests.{eq-eqb, ne-eqb}
 use lib.Dec.{eqb}
 use lib.ListN.{length, getD, set, take, length-set}
-use Rattle.semantics.specs.Corner.{countFrom}
-use Rattle.semantics.specs.Path.{infinity}
-use Rattle.semantics.specs.Node.{nodeOf, nodeNumber}
-use Rattle.semantics.specs.CornerGraph.{numberOf}
+use Rattle.semantics.specs.Answer.{countFrom}
+use Rattle.semantics.specs.Graph.Path.{infinity}
+use Rattle.semantics.specs.Nodes.Node.{nodeOf, nodeNumber}
+use Rattle.semantics.specs.Graph.CornerGraph.{numberOf}
 use Rattle.semantics.specs.Answers.Places.{number-below}
 use Rattle.semantics.specs.Answers.Moving.{number-row}
 use Rattle.reader.specs.declared.Table.{Table}

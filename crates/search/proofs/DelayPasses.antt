@@ -7,7 +7,7 @@ use Prim.Native.Nat.{ℕ, suc, _+_, _/_, _≤_, _<_}
 use native.Mathlib.Decide.{decLt}
 use native.Mathlib.Omega.{arith}
 use lib.ListN.{length}
-use Rattle.semantics.specs.Path.{Graph, Target, infinity, chargeAt, table}
+use Rattle.semantics.specs.Graph.Path.{Graph, Target, infinity, chargeAt, table}
 use Rattle.semantics.specs.Paths.Update.{update-wider}
 use Rattle.semantics.specs.Paths.Ahead.{mostClasses, noted, Pending, ToCome, Pass}
 use Rattle.search.specs.Edges.{Sent}

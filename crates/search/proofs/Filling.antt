@@ -6,7 +6,8 @@ use Prim.Native.Nat.{ℕ, _+_, _*_, _≤_, _<_}
 use native.Mathlib.Omega.{arith}
 use lib.ListN.{length, getD, take, drop, replicate, length-append, length-drop, length-replicate, getD-replicate, List·getD-append}
 use lib.Seq.{length-take-le, drop-append-add}
-use Rattle.semantics.specs.Path.{cost, infinity}
+use Rattle.semantics.specs.Order.{cost}
+use Rattle.semantics.specs.Graph.Path.{infinity}
 use Rattle.semantics.specs.Paths.Words.{stored, stored-length, stored-rest, stored-charge, stored-steps, other-charge, other-steps}
 use Rattle.search.specs.Seeding.{SeedRoom, Seeds}
 

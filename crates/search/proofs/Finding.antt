@@ -13,10 +13,11 @@ use lib.Dec.{leb}
 use lib.ListN.{length, getD, drop, take}
 use Rattle.semantics.specs.Automaton.{timers}
 use Rattle.semantics.specs.Region.{PricedRegion, start}
-use Rattle.semantics.specs.Path.{Target, Cost, cost, Entry, unreached, reached, infinity, chargeAt, stepsAt, table}
-use Rattle.semantics.specs.Node.{nodeOf, nodeNumber}
-use Rattle.semantics.specs.Distance.{distance}
-use Rattle.semantics.specs.Near.{turned, near, nearWords}
+use Rattle.semantics.specs.Order.{Cost, cost}
+use Rattle.semantics.specs.Graph.Path.{Target, Entry, unreached, reached, infinity, chargeAt, stepsAt, table}
+use Rattle.semantics.specs.Nodes.Node.{nodeOf, nodeNumber}
+use Rattle.semantics.specs.Graph.Distance.{distance}
+use Rattle.semantics.specs.Graph.Near.{turned, near, nearWords}
 use Rattle.semantics.specs.Paths.Cost.{cost-same}
 use Rattle.semantics.specs.Paths.Words.{table-unreached, table-holds, reached-words}
 use Rattle.semantics.specs.Paths.Update.{Blank}

@@ -7,9 +7,9 @@ use native.Mathlib.Omega.{arith}
 use borrow.Author.Tests.{eqb-true, eq-eqb}
 use Rattle.semantics.specs.Automaton.{Automaton}
 use Rattle.semantics.specs.Region.{top}
-use Rattle.semantics.specs.Path.{Target}
+use Rattle.semantics.specs.Graph.Path.{Target}
 use Rattle.semantics.specs.Chain.{Place}
-use Rattle.semantics.specs.CornerGraph.{numberOf, cornerGraph}
+use Rattle.semantics.specs.Graph.CornerGraph.{numberOf, cornerGraph}
 use Rattle.semantics.specs.Answers.Places.{IsPlace, corner-top}
 use Rattle.semantics.specs.Answers.Graph.{graph-target}
 use Rattle.reader.specs.declared.Table.{Table}

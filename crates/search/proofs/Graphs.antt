@@ -9,15 +9,15 @@ use native.Mathlib.Omega.{arith}
 use lib.ListN.{length, getD, List·getD-eq-default}
 use Rattle.semantics.specs.Automaton.{Proper}
 use Rattle.semantics.specs.Region.{top}
-use Rattle.semantics.specs.Corner.{countFrom}
-use Rattle.semantics.specs.Node.{nodeCount}
+use Rattle.semantics.specs.Answer.{countFrom}
+use Rattle.semantics.specs.NodeCount.{nodeCount}
 use Rattle.semantics.specs.Chain.{Place}
-use Rattle.semantics.specs.CornerGraph.{numberOf, PricesWithin}
+use Rattle.semantics.specs.Graph.CornerGraph.{numberOf, PricesWithin}
 use Rattle.semantics.specs.Answers.Places.{IsPlace, corner-top, number-below}
 use Rattle.semantics.specs.Answers.Graph.{graph-nodes, graph-closed, graph-weights}
 use Rattle.semantics.specs.Answers.Moving.{number-row}
 use Rattle.semantics.specs.Answers.Waiting.{Indexed}
-use Rattle.semantics.specs.Near.{turned}
+use Rattle.semantics.specs.Graph.Near.{turned}
 use Rattle.semantics.specs.Paths.Update.{Update}
 use Rattle.reader.specs.declared.Table.{Table}
 use Rattle.reader.specs.Held.{IsTable}

@@ -9,7 +9,7 @@ use native.Mathlib.Decide.{ℕ-discrete, decLt}
 use native.Mathlib.Omega.{arith}
 use borrow.Author.Tests.{eq-eqb}
 use lib.ListN.{length}
-use Rattle.semantics.specs.Path.{Edge, Graph, Target, Entry, unreached, reached, Within, infinity, chargeAt, table}
+use Rattle.semantics.specs.Graph.Path.{Edge, Graph, Target, Entry, unreached, reached, Within, infinity, chargeAt, table}
 use Rattle.semantics.specs.Paths.Cost.{cost-both}
 use Rattle.semantics.specs.Paths.Sound.{Lower}
 use Rattle.semantics.specs.Paths.Update.{update-wider}

@@ -8,7 +8,8 @@ use native.Mathlib.Nat.{mul-le-mul-right, suc-mul}
 use native.Mathlib.Decide.{ℕ-discrete}
 use native.Mathlib.Omega.{arith}
 use lib.ListN.{length, drop}
-use Rattle.semantics.specs.Path.{Cost, cost, infinity, chargeAt, stepsAt}
+use Rattle.semantics.specs.Order.{Cost, cost}
+use Rattle.semantics.specs.Graph.Path.{infinity, chargeAt, stepsAt}
 use Rattle.semantics.specs.Paths.Words.{stored, stored-length, stored-rest, stored-charge, stored-steps, other-charge, other-steps}
 use Rattle.semantics.specs.Paths.Update.{Blank}
 use Rattle.search.specs.declared.near.Cost.{Cost as CostHeld}

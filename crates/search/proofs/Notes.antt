@@ -11,7 +11,7 @@ use borrow.Author.Tests.{ltb-true, ltb-false, eq-eqb, ne-eqb}
 use lib.Dec.{ltb}
 use lib.ListN.{length, set, length-set}
 use lib.Seq.{getD-set-same, getD-set-other}
-use Rattle.semantics.specs.Path.{infinity}
+use Rattle.semantics.specs.Graph.Path.{infinity}
 use Rattle.semantics.specs.Paths.Ahead.{mostClasses, noted, boundOf, Falls}
 use Rattle.search.specs.Classes.{lowered, notedFor}
 use Rattle.search.proofs.Noting.{noted-none}

@@ -12,7 +12,7 @@ use native.Mathlib.Omega.{arith}
 use lib.Dec.{eqb}
 use lib.ListN.{length, getD, set}
 use borrow.Author.Tests.{eq-eqb, ne-eqb, lt-ltb, le-ltb}
-use Rattle.semantics.specs.Path.{infinity, chargeAt}
+use Rattle.semantics.specs.Graph.Path.{infinity, chargeAt}
 use Rattle.semantics.specs.Paths.Ahead.{mostClasses, noted, boundOf}
 use Rattle.search.specs.Classes.{lowered, notedFor, FirstPending, NextPending, NextDue}
 

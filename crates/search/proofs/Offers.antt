@@ -8,8 +8,8 @@ use Prim.Native.Nat.{ℕ, suc, _+_, _≤_, _<_}
 use native.Mathlib.Decide.{ℕ-discrete, decLt}
 use native.Mathlib.Omega.{arith}
 use lib.ListN.{length}
-use Rattle.semantics.specs.Path.{Edge, Graph, infinity, chargeAt, table}
-use Rattle.semantics.specs.Near.{turn, turned}
+use Rattle.semantics.specs.Graph.Path.{Edge, Graph, infinity, chargeAt, table}
+use Rattle.semantics.specs.Graph.Near.{turn, turned}
 use Rattle.semantics.specs.Paths.Turned.{turned-leaves}
 use Rattle.semantics.specs.Paths.Sound.{Sound}
 use Rattle.semantics.specs.Paths.Update.{Outside, update-none}

@@ -10,11 +10,12 @@ use native.Mathlib.Omega.{arith}
 use lib.ListN.{length, getD, take}
 use Rattle.semantics.specs.Automaton.{Automaton, Mode, Move, modeAt, moveAt}
 use Rattle.semantics.specs.Region.{PricedRegion, top, resetAll, meetsAll}
-use Rattle.semantics.specs.Path.{Edge, Leaves}
-use Rattle.semantics.specs.Node.{nodeCount, nodeNumber, nodeOf}
+use Rattle.semantics.specs.Graph.Path.{Edge, Leaves}
+use Rattle.semantics.specs.NodeCount.{nodeCount}
+use Rattle.semantics.specs.Nodes.Node.{nodeNumber, nodeOf}
 use Rattle.semantics.specs.Chain.{Place}
-use Rattle.semantics.specs.CornerPath.{resetAllCorner}
-use Rattle.semantics.specs.CornerGraph.{numberOf}
+use Rattle.semantics.specs.Corners.Edges.{resetAllCorner}
+use Rattle.semantics.specs.Graph.CornerGraph.{numberOf}
 use Rattle.semantics.specs.Bounds.Prices.{price}
 use Rattle.semantics.specs.Answers.Places.{IsPlace, corner-top, number-below}
 use Rattle.semantics.specs.Answers.Graph.{graph-nodes}

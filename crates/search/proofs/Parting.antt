@@ -5,9 +5,8 @@ use mathlib.Core.List.{List}
 use Prim.Native.Nat.{ℕ, zero, suc, _+_, _*_, _/_, _≤_, _<_}
 use native.Mathlib.Nat.{mul-assoc, suc-mul, mul-le-mul-right, div-lt-iff-lt-mul}
 use native.Mathlib.Omega.{arith}
-use Rattle.semantics.specs.Corner.{cornerCount}
-use Rattle.semantics.specs.Path.{Target}
-use Rattle.semantics.specs.Node.{cellCount, nodeCount}
+use Rattle.semantics.specs.NodeCount.{cornerCount, cellCount, nodeCount}
+use Rattle.semantics.specs.Graph.Path.{Target}
 use Rattle.semantics.specs.Paths.Passes.{quotient-range}
 use Rattle.semantics.specs.Paths.Ahead.{mostClasses}
 use Rattle.semantics.specs.Answers.Modes.{graph-goal}

@@ -10,7 +10,7 @@ use borrow.Author.Tests.{eq-eqb, ne-eqb, lt-ltb}
 use lib.Dec.{ltb, eqb}
 use lib.ListN.{length, getD, set, replicate, length-set}
 use lib.Seq.{getD-set-same, getD-set-other}
-use Rattle.semantics.specs.Path.{infinity}
+use Rattle.semantics.specs.Graph.Path.{infinity}
 use Rattle.semantics.specs.Paths.Ahead.{mostClasses, anyCharge, noted, boundOf}
 use Rattle.search.specs.Classes.{lowered, notedFor}
 

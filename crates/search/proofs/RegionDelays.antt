@@ -10,10 +10,11 @@ use native.Mathlib.Omega.{arith}
 use lib.ListN.{length, getD, take}
 use Rattle.semantics.specs.Automaton.{Automaton, Mode, modeAt}
 use Rattle.semantics.specs.Region.{PricedRegion, top, meetsAll, within}
-use Rattle.semantics.specs.Path.{Edge, Leaves, infinity, chargeAt}
-use Rattle.semantics.specs.Node.{nodeOf, nodeNumber, nodeCount}
+use Rattle.semantics.specs.Graph.Path.{Edge, Leaves, infinity, chargeAt}
+use Rattle.semantics.specs.NodeCount.{nodeCount}
+use Rattle.semantics.specs.Nodes.Node.{nodeOf, nodeNumber}
 use Rattle.semantics.specs.Chain.{Place}
-use Rattle.semantics.specs.CornerGraph.{numberOf}
+use Rattle.semantics.specs.Graph.CornerGraph.{numberOf}
 use Rattle.semantics.specs.Bounds.Prices.{price}
 use Rattle.semantics.specs.Bounds.Steps.{rateAt}
 use Rattle.semantics.specs.Answers.Places.{IsPlace, corner-top, number-below}

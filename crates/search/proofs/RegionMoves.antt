@@ -10,8 +10,9 @@ use native.Mathlib.Omega.{arith}
 use lib.ListN.{length, getD, take}
 use Rattle.semantics.specs.Automaton.{Move}
 use Rattle.semantics.specs.Region.{resetAll, meetsAll}
-use Rattle.semantics.specs.Path.{Edge, Leaves, chargeAt}
-use Rattle.semantics.specs.Node.{nodeCount, nodeNumber, nodeOf}
+use Rattle.semantics.specs.Graph.Path.{Edge, Leaves, chargeAt}
+use Rattle.semantics.specs.NodeCount.{nodeCount}
+use Rattle.semantics.specs.Nodes.Node.{nodeNumber, nodeOf}
 use Rattle.semantics.specs.Nodes.Radix.{factor-pos}
 use Rattle.semantics.specs.Answers.Graph.{graph-nodes}
 use Rattle.semantics.specs.Answers.Moving.{edge-move}

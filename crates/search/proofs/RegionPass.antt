@@ -7,8 +7,8 @@ use Prim.Native.Nat.{ℕ, _+_, _≤_, _<_}
 use native.Mathlib.Decide.{decLt}
 use native.Mathlib.Omega.{arith}
 use lib.ListN.{length}
-use Rattle.semantics.specs.Path.{Edge, Leaves, Target, chargeAt}
-use Rattle.semantics.specs.Node.{Node}
+use Rattle.semantics.specs.Graph.Path.{Edge, Leaves, Target, chargeAt}
+use Rattle.semantics.specs.Nodes.Node.{Node}
 use Rattle.semantics.specs.Answers.Places.{corner-top, number-node}
 use Rattle.semantics.specs.Answers.Graph.{graph-nodes}
 use Rattle.semantics.specs.Answers.Modes.{modeOfNode, graph-goal}

@@ -11,11 +11,11 @@ use native.Mathlib.Omega.{arith}
 use lib.ListN.{getD, List·getD-eq-default}
 use Rattle.semantics.specs.Automaton.{Automaton}
 use Rattle.semantics.specs.Region.{top, noZero, delay}
-use Rattle.semantics.specs.Path.{Edge, Leaves, Target, chargeAt, table}
-use Rattle.semantics.specs.Near.{turn, turned}
-use Rattle.semantics.specs.Node.{Node}
+use Rattle.semantics.specs.Graph.Path.{Edge, Leaves, Target, chargeAt, table}
+use Rattle.semantics.specs.Graph.Near.{turn, turned}
+use Rattle.semantics.specs.Nodes.Node.{Node}
 use Rattle.semantics.specs.Chain.{Place}
-use Rattle.semantics.specs.CornerGraph.{numberOf}
+use Rattle.semantics.specs.Graph.CornerGraph.{numberOf}
 use Rattle.semantics.specs.Bounds.Steps.{rateAt}
 use Rattle.semantics.specs.Answers.Places.{IsPlace, corner-top, number-node}
 use Rattle.semantics.specs.Answers.Graph.{graph-nodes}

@@ -7,7 +7,8 @@ use mathlib.Core.List.{List}
 use Prim.Native.Nat.{ℕ, suc, _+_, _*_, _≤_, _<_}
 use native.Mathlib.Omega.{arith}
 use lib.ListN.{length}
-use Rattle.semantics.specs.Path.{Edge, Graph, cost, _≼_, _≺_, infinity, chargeAt, stepsAt}
+use Rattle.semantics.specs.Order.{cost, _≼_, _≺_}
+use Rattle.semantics.specs.Graph.Path.{Edge, Graph, infinity, chargeAt, stepsAt}
 use Rattle.semantics.specs.Paths.Words.{stored, stored-charge}
 use Rattle.semantics.specs.Paths.Sound.{costAt, sound-bound, relaxed-words, relaxed-stored}
 use Rattle.semantics.specs.Paths.Update.{update-none, update-stored}

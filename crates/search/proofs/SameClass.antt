@@ -8,12 +8,13 @@ use native.Mathlib.Omega.{arith}
 use lib.ListN.{length}
 use Rattle.semantics.specs.Automaton.{Automaton, timers}
 use Rattle.semantics.specs.Region.{top}
-use Rattle.semantics.specs.Corner.{cornerCount, cornerOf, cornerNumber}
+use Rattle.semantics.specs.NodeCount.{cornerCount, cellCount, nodeCount}
+use Rattle.semantics.specs.Corners.Corner.{cornerOf, cornerNumber}
 use Rattle.semantics.specs.Corners.Number.{number-below}
-use Rattle.semantics.specs.Node.{cellCount, cellNumber, nodeCount, nodeNumber}
+use Rattle.semantics.specs.Nodes.Node.{cellNumber, nodeNumber}
 use Rattle.semantics.specs.Nodes.Radix.{quotient-below, pair-quotient}
 use Rattle.semantics.specs.Chain.{Place}
-use Rattle.semantics.specs.CornerGraph.{numberOf}
+use Rattle.semantics.specs.Graph.CornerGraph.{numberOf}
 use Rattle.semantics.specs.Answers.Places.{IsPlace, corner-top, corner-node}
 use Rattle.semantics.specs.Answers.Moving.{number-row}
 use Rattle.semantics.specs.Paths.Ahead.{mostClasses}

@@ -7,8 +7,8 @@ use mathlib.Core.List.{List}
 use Prim.Native.Nat.{ℕ, suc, _+_, _≤_, _<_}
 use native.Mathlib.Decide.{ℕ-discrete}
 use native.Mathlib.Omega.{arith}
-use Rattle.semantics.specs.Path.{Edge, Graph, infinity, chargeAt, table}
-use Rattle.semantics.specs.Near.{turn, turned}
+use Rattle.semantics.specs.Graph.Path.{Edge, Graph, infinity, chargeAt, table}
+use Rattle.semantics.specs.Graph.Near.{turn, turned}
 use Rattle.semantics.specs.Paths.Sound.{relaxed-kept}
 use Rattle.semantics.specs.Paths.Update.{Update, update-wider, update-then}
 use Rattle.semantics.specs.Paths.Ahead.{RelaxedAt, entry-charge, charge-lower}

@@ -12,9 +12,8 @@ use native.Mathlib.Omega.{arith}
 use lib.ListN.{length, getD, drop, set, length-set}
 use lib.Seq.{getD-set-other}
 use Rattle.semantics.specs.Automaton.{Mode}
-use Rattle.semantics.specs.Corner.{cornerCount}
-use Rattle.semantics.specs.Path.{infinity}
-use Rattle.semantics.specs.Node.{cellCount}
+use Rattle.semantics.specs.NodeCount.{cornerCount, cellCount}
+use Rattle.semantics.specs.Graph.Path.{infinity}
 use Rattle.semantics.specs.Paths.Sound.{measure}
 use Rattle.semantics.specs.Paths.Update.{Blank}
 use Rattle.semantics.specs.Paths.Turned.{turned-nodes}

@@ -7,7 +7,7 @@ use mathlib.Core.List.{List}
 use Prim.Native.Nat.{ℕ, _*_, _/_, _≤_, _<_}
 use lib.Dec.{ltb, eqb}
 use lib.ListN.{length, getD, set}
-use Rattle.semantics.specs.Path.{infinity, chargeAt}
+use Rattle.semantics.specs.Graph.Path.{infinity, chargeAt}
 use Rattle.semantics.specs.Paths.Ahead.{mostClasses, noted, boundOf}
 
 -- "modes m, 1 to 16", "moves e, 0 to 64".

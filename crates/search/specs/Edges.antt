@@ -7,8 +7,8 @@ use mathlib.Core.List.{List}
 use Prim.Native.Nat.{ℕ, suc, _+_, _≤_, _<_}
 use lib.Dec.{ltb}
 use lib.ListN.{getD}
-use Rattle.semantics.specs.Path.{Edge, Graph, Leaves, Closed, WeightsWithin, infinity, chargeAt, table}
-use Rattle.semantics.specs.Near.{turned}
+use Rattle.semantics.specs.Graph.Path.{Edge, Graph, Leaves, Closed, WeightsWithin, infinity, chargeAt, table}
+use Rattle.semantics.specs.Graph.Near.{turned}
 use Rattle.semantics.specs.Paths.Sound.{Sound}
 use Rattle.semantics.specs.Paths.Update.{Update, Relaxes}
 use Rattle.semantics.specs.Paths.Ahead.{RelaxedAt}

@@ -5,7 +5,7 @@ use mathlib.Core.Logic.{_⊎_, _≢_}
 use mathlib.Core.List.{List}
 use Prim.Native.Nat.{ℕ, _+_, _*_, _/_, _≤_, _<_}
 use lib.ListN.{length, drop}
-use Rattle.semantics.specs.Path.{infinity, chargeAt, stepsAt}
+use Rattle.semantics.specs.Graph.Path.{infinity, chargeAt, stepsAt}
 use Rattle.semantics.specs.Paths.Update.{Blank}
 use Rattle.regions.specs.Nodes.{mostNodes}
 use Rattle.search.specs.declared.near.Cost.{Cost as CostHeld}

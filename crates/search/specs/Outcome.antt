@@ -6,9 +6,9 @@ use Prim.Native.Nat.{ℕ, _*_}
 use lib.Dec.{leb}
 use lib.ListN.{length, drop, replicate}
 use Rattle.semantics.specs.Automaton.{Automaton}
-use Rattle.semantics.specs.Node.{nodeCount}
-use Rattle.semantics.specs.Near.{nearWords}
-use Rattle.semantics.specs.CornerGraph.{startNode, cornerGraph}
+use Rattle.semantics.specs.NodeCount.{nodeCount}
+use Rattle.semantics.specs.Graph.Near.{nearWords}
+use Rattle.semantics.specs.Graph.CornerGraph.{startNode, cornerGraph}
 pub use Rattle.regions.specs.Nodes.{mostNodes}
 use Rattle.search.specs.declared.Searched.{Searched}
 use Rattle.search.specs.declared.Searched.the-variants.{Nodes, Refused}

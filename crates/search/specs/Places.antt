@@ -9,11 +9,11 @@ use lib.Dec.{leb, ltb, eqb}
 use lib.ListN.{length, getD, set}
 use Rattle.semantics.specs.Automaton.{Automaton}
 use Rattle.semantics.specs.Region.{meetsAll}
-use Rattle.semantics.specs.Corner.{countFrom}
-use Rattle.semantics.specs.Path.{infinity, chargeAt, stepsAt}
-use Rattle.semantics.specs.Node.{nodeCount}
+use Rattle.semantics.specs.Answer.{countFrom}
+use Rattle.semantics.specs.Graph.Path.{infinity, chargeAt, stepsAt}
+use Rattle.semantics.specs.NodeCount.{nodeCount}
 use Rattle.semantics.specs.Chain.{Place, step, moveStep, delayStep, lingerStep}
-use Rattle.semantics.specs.CornerGraph.{numberOf}
+use Rattle.semantics.specs.Graph.CornerGraph.{numberOf}
 use Rattle.semantics.specs.Answers.Places.{IsPlace}
 use Rattle.reader.specs.declared.Table.{Table}
 use Rattle.reader.specs.Held.{IsTable}

@@ -8,12 +8,12 @@ use Prim.Native.Nat.{ℕ, suc, _+_, _*_, _/_, _≤_, _<_}
 use lib.ListN.{length, getD, take}
 use Rattle.semantics.specs.Automaton.{Automaton, modeAt}
 use Rattle.semantics.specs.Region.{delay}
-use Rattle.semantics.specs.Corner.{cornerCount, countFrom}
-use Rattle.semantics.specs.Path.{Edge, Graph, Leaves, chargeAt}
-use Rattle.semantics.specs.Near.{turned}
-use Rattle.semantics.specs.Node.{cellCount, nodeCount}
+use Rattle.semantics.specs.NodeCount.{cornerCount, cellCount, nodeCount}
+use Rattle.semantics.specs.Answer.{countFrom}
+use Rattle.semantics.specs.Graph.Path.{Edge, Graph, Leaves, chargeAt}
+use Rattle.semantics.specs.Graph.Near.{turned}
 use Rattle.semantics.specs.Chain.{Place}
-use Rattle.semantics.specs.CornerGraph.{numberOf, startNode, cornerGraph}
+use Rattle.semantics.specs.Graph.CornerGraph.{numberOf, startNode, cornerGraph}
 use Rattle.semantics.specs.Answers.Places.{IsPlace}
 use Rattle.semantics.specs.Answers.Modes.{modeOfNode}
 use Rattle.semantics.specs.Paths.Sound.{Sound}

@@ -5,7 +5,7 @@ use mathlib.Core.Bool.{Bool, false}
 use mathlib.Core.List.{List}
 use Prim.Native.Nat.{ℕ, _+_, _*_, _≤_, _<_}
 use lib.ListN.{length, drop}
-use Rattle.semantics.specs.Near.{turned}
+use Rattle.semantics.specs.Graph.Near.{turned}
 use Rattle.semantics.specs.Paths.Update.{Blank, Update}
 use Rattle.semantics.specs.Paths.Seed.{Seeded}
 use Rattle.semantics.specs.Paths.Spread.{Spread as SpreadTo}

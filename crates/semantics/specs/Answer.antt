@@ -4,16 +4,14 @@
 use Prim.Native.Nat.{ℕ, zero, suc, pred, min}
 use mathlib.Core.Path.{_≡_}
 use mathlib.Core.Bool.{Bool, true, false, cond}
-use mathlib.Core.Logic.{_↔_}
 use mathlib.Core.List.{List, [], _∷_, List·Memᴰ}
 use mathlib.Core.Option.{none, some}
-use lib.Dec.{ltb, eqb}
+use lib.Dec.{eqb}
 use lib.ListN.{length}
 use Rattle.semantics.specs.Automaton.{Automaton}
-use Rattle.semantics.specs.Corner.{countFrom}
-use Rattle.semantics.specs.Node.{nodeCount}
-use Rattle.semantics.specs.Chain.{Place, step, begin, chain, movesOf}
-use Rattle.semantics.specs.Demand.{AtLeast, Approached, NoRun}
+use Rattle.semantics.specs.NodeCount.{nodeCount}
+use Rattle.semantics.specs.Chain.{Place, step, begin, chain}
+use Rattle.semantics.specs.Order.{cost, isLess, earlier}
 
 -- The chain of the steps ks ends in mode l with a corner at the price C.
 pub record Comes (a : Automaton) (l : ℕ) (ks : List ℕ) (C : ℕ) : Type 0 where
@@ -22,21 +20,21 @@ pub record Comes (a : Automaton) (l : ℕ) (ks : List ℕ) (C : ℕ) : Type 0 wh
   pub mode : place .mode ≡ l
   pub corner : List·Memᴰ C (place .region .prices)
 
+-- No chain ends in mode l.
+abbrev pub NoChain : Automaton → ℕ → Type 0
+NoChain a l = (ks : List ℕ) (p : Place) → chain a ks ≡ some p → p .mode ≡ l → ⊥
+
 -- No route, or a route with its charge.
 pub data Answer : Type 0 where
   noRoute : Answer
   route : ℕ → List ℕ → Answer
 
--- The first list comes before the second in byte order; both have the same length.
-abbrev pub earlier : List ℕ → List ℕ → Bool
-earlier [] ks = false
-earlier (j ∷ js) [] = false
-earlier (j ∷ js) (k ∷ ks) = cond (ltb j k) true (cond (eqb j k) (earlier js ks) false)
-
 -- The first route is better: by charge, then by steps, then by byte order.
 abbrev pub isBetter : ℕ → List ℕ → ℕ → List ℕ → Bool
 isBetter C js D ks =
-    cond (ltb C D) true (cond (eqb C D) (cond (ltb (length js) (length ks)) true (cond (eqb (length js) (length ks)) (earlier js ks) false)) false)
+    let c = cost C (length js) in
+    let d = cost D (length ks) in
+    cond (isLess c d) true (cond (isLess d c) false (earlier js ks))
 
 -- The better of two answers.
 abbrev pub better : Answer → Answer → Answer
@@ -59,6 +57,11 @@ least (c ∷ d ∷ cs) = min c (least (d ∷ cs))
 abbrev pub stopping : ℕ → Place → Answer
 stopping l p = cond (eqb (p .mode) l) (route (least (p .region .prices)) []) noRoute
 
+-- i, i + 1, .., so many numbers.
+abbrev pub countFrom : ℕ → ℕ → List ℕ
+countFrom i zero = []
+countFrom i (suc n) = i ∷ countFrom (suc i) n
+
 -- The step bytes.
 abbrev pub stepBytes : List ℕ
 stepBytes = countFrom 0 66
@@ -76,12 +79,3 @@ bestFrom a l (suc n) p = better (stopping l p) (overSteps (λ p′. bestFrom a l
 -- The answer for the goal l: no chain of E steps or more is better than all shorter ones (Answers.Best), so that E - 1 steps are enough.
 unfoldable pub answer : Automaton → ℕ → Answer
 answer a l = bestFrom a l (pred (nodeCount a)) (begin a)
-
--- What demand 3 says of an answer for the goal l.
-pub record MeetsDemand (a : Automaton) (l : ℕ) (x : Answer) : Type 0 where
-  -- "Where it reports a charge C, every run from the start [..] into the goal [..] is charged C or more".
-  pub at-least : (C : ℕ) (ks : List ℕ) → x ≡ route C ks → AtLeast a l C
-  -- "for every whole m from 1 some such run, making exactly the route's moves in their order, is charged less than C + 1/m".
-  pub approached : (C : ℕ) (ks : List ℕ) → x ≡ route C ks → Approached a l (movesOf ks) C
-  -- "the answer no route exactly when no run from the start comes into the goal".
-  pub no-run : (x ≡ noRoute) ↔ NoRun a l

@@ -1,4 +1,4 @@
--- Demand 3 over runs (Lower, Upper, Exists), and the laws of corner prices along chains (Flow, Paths, Monotone).
+-- Demand 3 over runs (Lower, Upper, Exists), and the law of corner prices along chains (Flow).
 -- Regions: their points by fractions, their prices, resets.
 pub mod Entries
 pub mod Inside
@@ -14,11 +14,10 @@ pub mod Shapes
 pub mod Alike
 pub mod Moved
 pub mod Reached
--- Prices along edges, corner paths.
+-- Prices along edges.
 pub mod Flow
-pub mod Paths
-pub mod Monotone
 -- The lower bound: runs rounded to chains.
+pub mod Floor
 pub mod Rounding
 pub mod Ticks
 pub mod Sum

@@ -1,4 +1,7 @@
 -- The numbers of nodes: each node has its own number below E, each number below E its node, and delay and linger lead to higher numbers.
+-- What nodes are and how they are numbered.
+pub mod Node
+-- Theorems:
 pub mod Radix
 pub mod Cells
 pub mod Number

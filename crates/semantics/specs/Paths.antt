@@ -13,9 +13,7 @@ pub mod Route
 pub mod Start
 pub mod FirstSome
 pub mod Greedy
-pub mod Plain
 -- Tables that are computed, and tables in words:
-pub mod Certificate
 pub mod Words
 pub mod Sum
 pub mod Sound

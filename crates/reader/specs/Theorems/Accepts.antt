@@ -5,7 +5,7 @@ use Prim.Native.Nat.{ℕ, suc, _-_, _≤_, _<_}
 use native.Mathlib.Omega.{arith}
 use mathlib.Core.Path.{_≡_, refl, sym, ap, _∙_}
 use mathlib.Core.Logic.{_↔_, inl, inr}
-use mathlib.Core.Bool.{Bool, true, false, cond}
+use mathlib.Core.Bool.{Bool, true, false, cond, true≢false}
 use mathlib.Core.List.{List, [], _∷_, _++_, List·Memᴰ, List·Memᴰ·cases-cons, List·Memᴰ·not-nil}
 use lib.ListN.{length}
 use Rattle.semantics.specs.Automaton.{startHolds}
@@ -170,13 +170,13 @@ layout-once bytes f g k l = took-same (sym (table-exactly .takes bytes f k) ∙ 
 
 -- What an acceptance comes of.
 accepted-from : (f : Fields) (o : Outcome Fields) → judge o ≡ accepted f → (o ≡ took f []) × (startHolds (automaton f) ≡ true)
-accepted-from f (refused n) e = let z : _≡_ {A = ℕ} 0 1 = cc in absurd (omega arith)
-accepted-from f (took g (b ∷ s)) e = let z : _≡_ {A = ℕ} 0 1 = cc in absurd (omega arith)
+accepted-from f (refused n) e = absurd (true≢false cc)
+accepted-from f (took g (b ∷ s)) e = absurd (true≢false cc)
 accepted-from f (took g []) e = go (startHolds (automaton g)) refl e
   where
     go : (t : Bool) → startHolds (automaton g) ≡ t → cond t (accepted g) (rejected 7) ≡ accepted f → (took g [] ≡ took f []) × (startHolds (automaton f) ≡ true)
     go true h e = let q : g ≡ f = cc in (ap (λ (u : Fields). took u []) q, rw (← q) h)
-    go false h e = let z : _≡_ {A = ℕ} 0 1 = cc in absurd (omega arith)
+    go false h e = absurd (true≢false cc)
 
 module _ (bytes : List ℕ) (f : Fields) where
   -- Bytes are accepted with the fields f exactly if they are a layout of f and mode 0's conditions hold at zero.
@@ -193,7 +193,7 @@ module _ (bytes : List ℕ) (f : Fields) where
   start-fails k h = rw (table-exactly .takes bytes f k, h)
 
   layout-judged : (t : Bool) → startHolds (automaton f) ≡ t → Layout bytes f → (n : ℕ) → read bytes ≡ rejected n → n ≡ 7
-  layout-judged true h k n e = let q : read bytes ≡ accepted f = accepts .1 (k, h) in let z : _≡_ {A = ℕ} 0 1 = cc in absurd (omega arith)
+  layout-judged true h k n e = let q : read bytes ≡ accepted f = accepts .1 (k, h) in absurd (true≢false cc)
   layout-judged false h k n e = let q : read bytes ≡ rejected 7 = start-fails k h in cc
 
   -- Bytes that are refused by any other number are no layout.

@@ -8,7 +8,7 @@ use mathlib.Core.List.{List, [], _∷_, _++_, map, List·Memᴰ}
 use lib.ListN.{length, getD, take, drop, replicate, length-map, length-append, length-replicate}
 use lib.Seq.{getD-drop, drop-drop}
 use Rattle.semantics.specs.Automaton.{Mode, Move, timers, modeAt, moveAt, Proper}
-use Rattle.semantics.specs.CornerGraph.{PricesWithin}
+use Rattle.semantics.specs.Graph.CornerGraph.{PricesWithin}
 use Rattle.semantics.specs.Corners.Lists.{mem-getD}
 use Rattle.semantics.specs.Regions.Lists.{replicate-zero}
 use Rattle.reader.specs.declared.Table.{Table}

@@ -3,7 +3,7 @@
 use Prim.Native.Nat.{ℕ, zero, suc, _≤_}
 use native.Mathlib.Omega.{arith}
 use mathlib.Core.Path.{_≡_, refl, sym, ap, _∙_}
-use mathlib.Core.Bool.{Bool, true, false, cond, _&&_}
+use mathlib.Core.Bool.{Bool, true, false, cond, _&&_, true≢false}
 use mathlib.Core.List.{List, [], _∷_, _++_, append-nil}
 use borrow.Author.Tests.{le-leb, leb-true}
 use lib.Dec.{leb}
@@ -26,8 +26,8 @@ frame (done b) xs rest ys a e = ap (λ (o : Outcome _). behind o ys) e
     behind : {A : Type 0} → Outcome A → List ℕ → Outcome A
     behind (refused n) ys = refused n
     behind (took a s) ys = took a (s ++ ys)
-frame (refuse n) xs rest ys a e = let z : _≡_ {A = ℕ} 0 1 = cc in absurd (omega arith)
-frame (byte k) [] rest ys a e = let z : _≡_ {A = ℕ} 0 1 = cc in absurd (omega arith)
+frame (refuse n) xs rest ys a e = absurd (true≢false cc)
+frame (byte k) [] rest ys a e = absurd (true≢false cc)
 frame (byte k) (b ∷ xs) rest ys a e = frame (k b) xs rest ys a e
 
 -- What was taken stands in front of what is left, and is taken alone.
@@ -38,8 +38,8 @@ pub record Taken {A : Type 0} (p : Parser A) (bytes : List ℕ) (a : A) (rest : 
 
 pub taken : {A : Type 0} (p : Parser A) (bytes : List ℕ) (a : A) (rest : List ℕ) → run p bytes ≡ took a rest → Taken p bytes a rest
 taken (done b) bytes a rest e = let f : bytes ≡ rest = cc in let g : b ≡ a = cc in record { front = []; split = f; alone = ap (λ (c : _). took c []) g }
-taken (refuse n) bytes a rest e = let z : _≡_ {A = ℕ} 0 1 = cc in absurd (omega arith)
-taken (byte k) [] a rest e = let z : _≡_ {A = ℕ} 0 1 = cc in absurd (omega arith)
+taken (refuse n) bytes a rest e = absurd (true≢false cc)
+taken (byte k) [] a rest e = absurd (true≢false cc)
 taken (byte k) (b ∷ bytes) a rest e =
     let t = taken (k b) bytes a rest e in
     record { front = b ∷ t .front; split = ap (λ (l : List ℕ). b ∷ l) (t .split); alone = t .alone }
@@ -112,12 +112,12 @@ One Good xs b = (xs ≡ b ∷ []) × Good b
 -- A byte that is taken if a test passes.
 module _ (test : ℕ → Bool) (number : ℕ) where
   tested-lays : (xs : List ℕ) (a : ℕ) → run (byte (λ b. cond (test b) (done b) (refuse number))) xs ≡ took a [] → One (λ b. test b ≡ true) xs a
-  tested-lays [] a e = let z : _≡_ {A = ℕ} 0 1 = cc in absurd (omega arith)
+  tested-lays [] a e = absurd (true≢false cc)
   tested-lays (b ∷ xs) a e = go (test b) refl e
     where
       go : (t : Bool) → test b ≡ t → run (cond t (done b) (refuse number)) xs ≡ took a [] → One (λ b. test b ≡ true) (b ∷ xs) a
       go true f e = let g : b ≡ a = cc in let h : xs ≡ [] = cc in (rw (g, h), rw (← g) f)
-      go false f e = let z : _≡_ {A = ℕ} 0 1 = cc in absurd (omega arith)
+      go false f e = absurd (true≢false cc)
 
   tested-takes : (xs : List ℕ) (a : ℕ) → One (λ b. test b ≡ true) xs a → run (byte (λ b. cond (test b) (done b) (refuse number))) xs ≡ took a []
   tested-takes xs a k = ap (run (byte (λ b. cond (test b) (done b) (refuse number)))) (k .0) ∙ ap (λ (t : Bool). run (cond t (done a) (refuse number)) []) (k .1)
@@ -129,7 +129,7 @@ module _ (test : ℕ → Bool) (number : ℕ) where
 pub guarded : (t : Bool) (v number : ℕ) → Exactly (cond t (done v) (refuse number)) (λ xs a. (xs ≡ []) × (v ≡ a) × (t ≡ true))
 guarded true v number = record { lays = λ xs a e. let f : xs ≡ [] = cc in let g : v ≡ a = cc in (f, g, refl); takes = λ xs a k. rw (k .0, k .1) }
 guarded false v number = record {
-  lays = λ xs a e. let z : _≡_ {A = ℕ} 0 1 = cc in absurd (omega arith);
+  lays = λ xs a e. absurd (true≢false cc);
   takes = λ xs a k. let z : _≡_ {A = ℕ} 0 1 = false-true (k .2) in absurd (omega arith);
 }
 

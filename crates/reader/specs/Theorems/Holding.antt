@@ -3,6 +3,7 @@
 use Prim.Native.Nat.{ℕ, _<_}
 use native.Mathlib.Omega.{arith}
 use mathlib.Core.Path.{_≡_, refl, sym, ap, ap₂, subst, _∙_}
+use mathlib.Core.Bool.{true≢false}
 use mathlib.Core.List.{List, [], _∷_, _++_, map, append-assoc, List·Memᴰ}
 use lib.ListN.{length, getD, take, drop}
 use lib.Seq.{take-at, drop-at, take-append-seam}
@@ -87,5 +88,4 @@ accepted-table bytes r small is met = go (read bytes) refl
         subst IsTable (sym (ap (λ (s : Reading). s .table) (is ∙ ap reading e))) (held-table f (accepted-range bytes f small e))
     go (rejected n) e =
         let no = sym met ∙ ap (λ (s : Reading). s .verdict) (is ∙ ap reading e) in
-        let z : _≡_ {A = ℕ} 0 1 = cc in
-        absurd (omega arith)
+        absurd (true≢false cc)

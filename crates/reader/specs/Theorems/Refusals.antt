@@ -3,7 +3,7 @@
 use Prim.Native.Nat.{ℕ, zero, suc, _-_, _/_, _%_, _^_, _≤_}
 use native.Mathlib.Omega.{arith}
 use mathlib.Core.Path.{_≡_, refl}
-use mathlib.Core.Bool.{Bool, true, false, cond, _&&_}
+use mathlib.Core.Bool.{Bool, true, false, cond, _&&_, true≢false}
 use mathlib.Core.List.{List, [], _∷_}
 use lib.Dec.{leb}
 use Rattle.semantics.specs.Automaton.{startHolds}
@@ -20,7 +20,7 @@ Refuses (refuse n) = (1 ≤ n) × (n ≤ 5)
 Refuses (byte k) = (b : ℕ) → Refuses (k b)
 
 refused-range : {A : Type 0} (p : Parser A) (bytes : List ℕ) (n : ℕ) → Refuses p → run p bytes ≡ refused n → (1 ≤ n) × (n ≤ 5)
-refused-range (done a) bytes n h e = let z : _≡_ {A = ℕ} 0 1 = cc in absurd (omega arith)
+refused-range (done a) bytes n h e = absurd (true≢false cc)
 refused-range (refuse m) bytes n h e = let q : m ≡ n = cc in rw (← q) h
 refused-range (byte k) [] n h e = let q : 1 ≡ n = cc in omega arith
 refused-range (byte k) (b ∷ bytes) n h e = refused-range (k b) bytes n (h b) e
@@ -97,7 +97,7 @@ judged-range (took f (b ∷ s)) h n e = let q : 6 ≡ n = cc in omega arith
 judged-range (took f []) h n e = go (startHolds (automaton f)) e
   where
     go : (t : Bool) → cond t (accepted f) (rejected 7) ≡ rejected n → (1 ≤ n) × (n ≤ 7)
-    go true e = let z : _≡_ {A = ℕ} 0 1 = cc in absurd (omega arith)
+    go true e = absurd (true≢false cc)
     go false e = let q : 7 ≡ n = cc in omega arith
 
 -- The numbers of the reader's refusals.

@@ -4,6 +4,7 @@ use Prim.Native.Nat.{ℕ, zero, suc, _+_, _-_, _≤_, _<_}
 use native.Mathlib.Numerals.{add-one}
 use native.Mathlib.Omega.{arith}
 use mathlib.Core.Path.{_≡_, refl, ap, sym, _∙_}
+use mathlib.Core.Bool.{true≢false}
 use mathlib.Core.List.{List, [], _∷_, _++_}
 use lib.ListN.{length, getD, drop, drop-of-length-le}
 use lib.Seq.{drop-cons}
@@ -44,7 +45,7 @@ pub record Parts {A B : Type 0} (p : Parser A) (f : A → Parser B) (bytes : Lis
 
 parts-at : {A B : Type 0} (p : Parser A) (f : A → Parser B) (bytes : List ℕ) (b : B) (rest : List ℕ) (o : Outcome A) → run p bytes ≡ o →
     andThen o f ≡ took b rest → Parts p f bytes b rest
-parts-at p f bytes b rest (refused n) e h = let z : _≡_ {A = ℕ} 0 1 = cc in absurd (omega arith)
+parts-at p f bytes b rest (refused n) e h = absurd (true≢false cc)
 parts-at p f bytes b rest (took a middle) e h = record { value = a; middle = middle; first = e; second = h }
 
 pub parts : {A B : Type 0} (p : Parser A) (f : A → Parser B) (bytes : List ℕ) (b : B) (rest : List ℕ) → run (p >>= f) bytes ≡ took b rest → Parts p f bytes b rest

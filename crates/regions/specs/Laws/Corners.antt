@@ -7,7 +7,8 @@ use Prim.Native.Nat.{ℕ, suc, _<_, _≤_}
 use native.Mathlib.Omega.{arith}
 use lib.ListN.{length, replicate, length-replicate}
 use Rattle.semantics.specs.Region.{PricedRegion, WellFormed}
-use Rattle.semantics.specs.Corner.{cornerOf, corners, cornerCount, cornerNumber, cornerAt}
+use Rattle.semantics.specs.NodeCount.{cornerCount}
+use Rattle.semantics.specs.Corners.Corner.{cornerOf, corners, cornerNumber, cornerAt}
 use Rattle.semantics.specs.Corners.Complete.{IsCorner, corner-listed, corners-sound}
 use Rattle.semantics.specs.Corners.Number.{cornerAt-listed, number-below, cornerAt-number}
 use Rattle.semantics.specs.Answers.Places.{highest-prices}

@@ -6,8 +6,8 @@ use Prim.Native.Nat.{ℕ, zero, suc, _+_, _*_, _-_, _/_, _%_, _≤_}
 use native.Mathlib.Nat.{mod-one}
 use native.Mathlib.Omega.{arith}
 use lib.ListN.{length, getD, take, replicate}
-use Rattle.semantics.specs.Corner.{cornerCount}
-use Rattle.semantics.specs.Node.{factor, cellCount, cellNumber, cellAt, nodeCount}
+use Rattle.semantics.specs.NodeCount.{cornerCount, factor, cellCount, nodeCount}
+use Rattle.semantics.specs.Nodes.Node.{cellNumber, cellAt}
 use Rattle.semantics.specs.Nodes.Cells.{cellAt-length}
 use Rattle.reader.specs.Meaning.{automaton}
 use Rattle.reader.specs.Held.{IsTable, held, fields}

@@ -3,7 +3,7 @@ use borrow.Author.Needs.{needs}
 use mathlib.Core.Path.{_≡_, sym, _∙_}
 use Prim.Native.Nat.{_≤_}
 use native.Mathlib.Omega.{arith}
-use Rattle.semantics.specs.Node.{nodeCount}
+use Rattle.semantics.specs.NodeCount.{nodeCount}
 use Rattle.regions.specs.Nodes.{mostNodes}
 use Rattle.search.specs.Regions.{automatonOf}
 use Rattle.search.specs.Laws.Answers.{count-few, count-many, answer-many, answer-short, answer-nodes}

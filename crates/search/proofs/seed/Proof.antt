@@ -5,7 +5,7 @@ use Prim.Native.Nat.{_*_}
 use native.Mathlib.Omega.{arith}
 use lib.ListN.{drop, length-set}
 use lib.Seq.{length-take-le}
-use Rattle.semantics.specs.Path.{infinity}
+use Rattle.semantics.specs.Graph.Path.{infinity}
 use Rattle.search.proofs.Filling.{Filled, filled-first, seeds}
 use borrow.Author.Needs.{needs}
 use Rattle.search.proofs.seed.Statement.{statement}

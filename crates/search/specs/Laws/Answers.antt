@@ -9,9 +9,9 @@ use borrow.Author.Tests.{leb-true, leb-false, le-leb, lt-leb}
 use lib.Dec.{leb}
 use lib.ListN.{length, drop, replicate}
 use Rattle.semantics.specs.Automaton.{Automaton}
-use Rattle.semantics.specs.Node.{nodeCount}
-use Rattle.semantics.specs.Near.{nearWords}
-use Rattle.semantics.specs.CornerGraph.{startNode, cornerGraph}
+use Rattle.semantics.specs.NodeCount.{nodeCount}
+use Rattle.semantics.specs.Graph.Near.{nearWords}
+use Rattle.semantics.specs.Graph.CornerGraph.{startNode, cornerGraph}
 use Rattle.regions.specs.declared.nodes.Nodes.the-variants.{Count, TooMany}
 use Rattle.regions.specs.Nodes.{mostNodes, bounded}
 use Rattle.search.specs.declared.Searched.{Searched}

@@ -11,12 +11,14 @@ use native.Mathlib.Omega.{arith}
 use borrow.Author.Tests.{eqb-true, eqb-false}
 use lib.Dec.{eqb}
 use lib.ListN.{length, getD, drop, length-append, length-drop}
-use Rattle.semantics.specs.Corner.{countFrom, flatMap}
-use Rattle.semantics.specs.Path.{Graph, Target, Closed, WeightsWithin, Cost, cost, _≼_, Entry, unreached, reached, infinity, chargeAt, stepsAt, table}
-use Rattle.semantics.specs.Node.{nodeCount}
-use Rattle.semantics.specs.Distance.{distance, entryWords}
-use Rattle.semantics.specs.Near.{turned, near, nearWords}
-use Rattle.semantics.specs.CornerGraph.{startNode, cornerGraph}
+use Rattle.semantics.specs.Answer.{countFrom}
+use Rattle.semantics.specs.Corners.Corner.{flatMap}
+use Rattle.semantics.specs.Order.{Cost, cost, _≼_}
+use Rattle.semantics.specs.Graph.Path.{Graph, Target, Closed, WeightsWithin, Entry, unreached, reached, infinity, chargeAt, stepsAt, table}
+use Rattle.semantics.specs.NodeCount.{nodeCount}
+use Rattle.semantics.specs.Graph.Distance.{distance, entryWords}
+use Rattle.semantics.specs.Graph.Near.{turned, near, nearWords}
+use Rattle.semantics.specs.Graph.CornerGraph.{startNode, cornerGraph}
 use Rattle.semantics.specs.Nodes.Number.{nodeAt-node}
 use Rattle.semantics.specs.Paths.Words.{table-unreached, table-holds, reached-words}
 use Rattle.semantics.specs.Paths.Update.{Blank}

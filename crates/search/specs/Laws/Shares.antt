@@ -4,8 +4,8 @@ use mathlib.Core.Path.{_≡_, sym, ap, _∙_, subst}
 use Prim.Native.Nat.{ℕ, _+_, _*_, _/_, _<_}
 use native.Mathlib.Nat.{mul-assoc, div-eq-of-eq-mul-right}
 use native.Mathlib.Omega.{arith}
-use Rattle.semantics.specs.Corner.{cornerCount}
-use Rattle.semantics.specs.Node.{Node, cellCount, nodeCount}
+use Rattle.semantics.specs.NodeCount.{cornerCount, cellCount, nodeCount}
+use Rattle.semantics.specs.Nodes.Node.{Node}
 use Rattle.semantics.specs.Chain.{begin}
 use Rattle.semantics.specs.Bounds.Reached.{reached-begin}
 use Rattle.semantics.specs.Answers.Places.{IsPlace, reached-place, corner-top, number-below, number-node}

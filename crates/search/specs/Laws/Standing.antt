@@ -13,10 +13,11 @@ use lib.Dec.{eqb}
 use lib.ListN.{length, set, drop, length-set}
 use lib.Seq.{getD-set-same, getD-set-other, drop-set-lt}
 use Rattle.semantics.specs.Automaton.{Automaton}
-use Rattle.semantics.specs.Corner.{countFrom}
-use Rattle.semantics.specs.Path.{Cost, Entry, unreached, reached, cost, infinity, chargeAt, stepsAt, table}
+use Rattle.semantics.specs.Answer.{countFrom}
+use Rattle.semantics.specs.Order.{Cost, cost}
+use Rattle.semantics.specs.Graph.Path.{Entry, unreached, reached, infinity, chargeAt, stepsAt, table}
 use Rattle.semantics.specs.Chain.{Place}
-use Rattle.semantics.specs.CornerGraph.{numberOf}
+use Rattle.semantics.specs.Graph.CornerGraph.{numberOf}
 use Rattle.semantics.specs.Regions.Compare.{and-true-iff}
 use Rattle.semantics.specs.Bounds.Prices.{price}
 use Rattle.semantics.specs.Paths.Words.{table-unreached, table-reached, table-holds, reached-words, unreached-words}

@@ -9,11 +9,11 @@ use native.Mathlib.Nat.{le-trans, mul-le-mul-right}
 use native.Mathlib.Omega.{arith}
 use lib.ListN.{length}
 use Rattle.semantics.specs.Automaton.{Automaton, Proper}
-use Rattle.semantics.specs.Path.{cost, Best}
-use Rattle.semantics.specs.Node.{nodeCount}
+use Rattle.semantics.specs.Order.{cost, Best}
+use Rattle.semantics.specs.NodeCount.{nodeCount}
 use Rattle.semantics.specs.Chain.{begin}
 use Rattle.semantics.specs.Answer.{Comes, Answer, noRoute, route, answer}
-use Rattle.semantics.specs.CornerGraph.{cornerGraph, PricesWithin}
+use Rattle.semantics.specs.Graph.CornerGraph.{cornerGraph, PricesWithin}
 use Rattle.semantics.specs.Bounds.Reached.{Reached, reached-begin}
 use Rattle.semantics.specs.Paths.Labels.{Few, Shortened, best-unique, best-short}
 use Rattle.semantics.specs.Paths.System.{arrives-short}

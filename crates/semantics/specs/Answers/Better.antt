@@ -1,9 +1,9 @@
 -- The answers that the page Answer puts together are the best of what they are put together from: the better of two answers, a step in front
 -- of an answer, and the least price.
 -- Assumes nothing.
-use mathlib.Core.Path.{_≡_, refl, sym, subst}
+use mathlib.Core.Path.{_≡_, refl, sym, ap, subst}
 use mathlib.Core.Bool.{Bool, true, false, cond, true≢false, false≢true}
-use mathlib.Core.Logic.{inl, inr, ⊎-elim}
+use mathlib.Core.Logic.{_⊎_, inl, inr, ⊎-elim}
 use mathlib.Core.List.{List, [], _∷_, List·Memᴰ, List·Memᴰ·head, List·Memᴰ·tail, List·Memᴰ·not-nil, List·Memᴰ·cases-cons, List·Memᴰ·eq-of-singleton}
 use Prim.Native.Nat.{ℕ, min, _<_, _≤_}
 use native.Mathlib.Decide.{decLe}
@@ -11,8 +11,9 @@ use native.Mathlib.Omega.{arith}
 use borrow.Author.Tests.{ltb-true, ltb-false, eqb-true, eqb-false}
 use lib.Dec.{ltb, eqb}
 use lib.ListN.{length}
-use Rattle.semantics.specs.Path.{Cost, cost, _⊑_, Best}
-use Rattle.semantics.specs.Answer.{Answer, noRoute, route, earlier, isBetter, better, behind, least}
+use Rattle.semantics.specs.Order.{Cost, cost, _≼_, _≺_, _⊑_, earlier, Best}
+use Rattle.semantics.specs.Answer.{Answer, noRoute, route, isBetter, better, behind, least}
+use Rattle.semantics.specs.Paths.Cost.{cost-antisymm, cost-total, less-true, less-false}
 use Rattle.semantics.specs.Paths.Labels.{best-map}
 use Rattle.semantics.specs.Paths.Better.{Either, Before, NoLater, best-left, best-only, best-swap, best-cons}
 
@@ -54,42 +55,31 @@ earlier-false (j ∷ js) (k ∷ ks) n t = go (ltb j k) refl (eqb j k) refl (earl
     go false p true q ih t = inr (sym (eqb-true j k q), ih t)
     go false p false q ih t = inl (omega (arith, ltb-false j k p, eqb-false j k q))
 
--- The test of what is better: by charge, then by steps, then by byte order.
+-- The test of what is better. Costs that are not the same decide; of the same cost, byte order does.
 module _ (C : ℕ) (js : List ℕ) (D : ℕ) (ks : List ℕ) where
-  -- The test, by what its parts come to.
-  abbrev tested : Bool → Bool → Bool → Bool → Bool
-  tested less same fewer many = cond less true (cond same (cond fewer true (cond many (earlier js ks) false)) false)
+  abbrev c : Cost
+  c = cost C (length js)
 
-  better-true : isBetter C js D ks ≡ true → NoLater (cost C (length js)) js (cost D (length ks)) ks
-  better-true t = go (ltb C D) refl (eqb C D) refl (ltb (length js) (length ks)) refl (eqb (length js) (length ks)) refl t
-    where
-      go :
-          (b : Bool) → ltb C D ≡ b → (c : Bool) → eqb C D ≡ c → (d : Bool) → ltb (length js) (length ks) ≡ d
-          → (e : Bool) → eqb (length js) (length ks) ≡ e → tested b c d e ≡ true → NoLater (cost C (length js)) js (cost D (length ks)) ks
-      go true p c q d r e s t = inl (inl (ltb-true C D p))
-      go false p false q d r e s t = absurd (false≢true t)
-      go false p true q true r e s t = inl (inr (eqb-true C D q, ltb-true (length js) (length ks) r))
-      go false p true q false r true s t =
-          let m = eqb-true C D q in
-          let n = eqb-true (length js) (length ks) s in
-          inr (λ i. cost (m i) (n i), earlier-true js ks t)
-      go false p true q false r false s t = absurd (false≢true t)
+  abbrev d : Cost
+  d = cost D (length ks)
 
-  better-false : isBetter C js D ks ≡ false → NoLater (cost D (length ks)) ks (cost C (length js)) js
-  better-false t = go (ltb C D) refl (eqb C D) refl (ltb (length js) (length ks)) refl (eqb (length js) (length ks)) refl t
+  better-true : isBetter C js D ks ≡ true → NoLater c js d ks
+  better-true t = go (cost-total d c) (cost-total c d)
     where
-      go :
-          (b : Bool) → ltb C D ≡ b → (c : Bool) → eqb C D ≡ c → (d : Bool) → ltb (length js) (length ks) ≡ d
-          → (e : Bool) → eqb (length js) (length ks) ≡ e → tested b c d e ≡ false → NoLater (cost D (length ks)) ks (cost C (length js)) js
-      go true p c q d r e s t = absurd (true≢false t)
-      go false p false q d r e s t = inl (inl (omega (arith, ltb-false C D p, eqb-false C D q)))
-      go false p true q true r e s t = absurd (true≢false t)
-      go false p true q false r true s t =
-          let m = eqb-true C D q in
-          let n = eqb-true (length js) (length ks) s in
-          inr (λ i. cost (sym m i) (sym n i), earlier-false js ks n t)
-      go false p true q false r false s t =
-          inl (inr (sym (eqb-true C D q), omega (arith, ltb-false (length js) (length ks) r, eqb-false (length js) (length ks) s)))
+      go : (d ≼ c) ⊎ (c ≺ d) → (c ≼ d) ⊎ (d ≺ c) → NoLater c js d ks
+      go (inr h) k = inl h
+      go (inl h) (inr k) = absurd (false≢true (rw (less-false c d h, less-true d c k) at t))
+      go (inl h) (inl k) = inr (cost-antisymm c d k h, earlier-true js ks (rw (less-false c d h, less-false d c k) at t))
+
+  better-false : isBetter C js D ks ≡ false → NoLater d ks c js
+  better-false t = go (cost-total d c) (cost-total c d)
+    where
+      go : (d ≼ c) ⊎ (c ≺ d) → (c ≼ d) ⊎ (d ≺ c) → NoLater d ks c js
+      go h (inr k) = inl k
+      go (inr h) (inl k) = absurd (true≢false (rw (less-true c d h) at t))
+      go (inl h) (inl k) =
+          let e = cost-antisymm c d k h in
+          inr (sym e, earlier-false js ks (ap (λ (x : Cost). x .steps) e) (rw (less-false c d h, less-false d c k) at t))
 
 module _ (P Q : List ℕ → ℕ → Type 0) where
   -- The better of two answers is the best of both kinds.

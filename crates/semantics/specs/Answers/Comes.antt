@@ -12,7 +12,7 @@ use Rattle.semantics.specs.Automaton.{Automaton, Proper}
 use Rattle.semantics.specs.Region.{start}
 use Rattle.semantics.specs.Chain.{Place, step, follow, begin, chain}
 use Rattle.semantics.specs.Answer.{Comes}
-use Rattle.semantics.specs.CornerGraph.{numberOf, cornerGraph, PricesWithin}
+use Rattle.semantics.specs.Graph.CornerGraph.{numberOf, cornerGraph, PricesWithin}
 use Rattle.semantics.specs.Bounds.Prices.{price}
 use Rattle.semantics.specs.Bounds.Steps.{follow-first}
 use Rattle.semantics.specs.Bounds.Reached.{Reached, reached-begin, chain-reached}

@@ -4,10 +4,10 @@ use mathlib.Core.Path.{_≡_, refl, sym, _∙_}
 use Prim.Native.Nat.{ℕ}
 use lib.ListN.{getD}
 use Rattle.semantics.specs.Automaton.{Automaton, Proper}
-use Rattle.semantics.specs.Path.{Graph, Closed, Entry, unreached, reached, LeastCosts}
+use Rattle.semantics.specs.Graph.Path.{Graph, Closed, Entry, unreached, reached, LeastCosts}
 use Rattle.semantics.specs.Chain.{begin}
 use Rattle.semantics.specs.Answer.{Answer, noRoute, route, answer}
-use Rattle.semantics.specs.CornerGraph.{startNode, cornerGraph}
+use Rattle.semantics.specs.Graph.CornerGraph.{startNode, cornerGraph}
 use Rattle.semantics.specs.Paths.UpTo.{distance-least}
 use Rattle.semantics.specs.Paths.Computed.{distances, distances-at}
 use Rattle.semantics.specs.Paths.Greedy.{greedy}

@@ -8,8 +8,8 @@ use borrow.Author.Tests.{eq-eqb, ne-eqb, lt-ltb}
 use Rattle.semantics.specs.Automaton.{Automaton, modeAt, moveAt, Proper}
 use Rattle.semantics.specs.Region.{count, top}
 use Rattle.semantics.specs.Chain.{Place}
-use Rattle.semantics.specs.CornerPath.{Edge, passEdges, dropEdges, edges}
-use Rattle.semantics.specs.CornerGraph.{PricesWithin}
+use Rattle.semantics.specs.Corners.Edges.{Edge, passEdges, dropEdges, edges}
+use Rattle.semantics.specs.Graph.CornerGraph.{PricesWithin}
 use Rattle.semantics.specs.Corners.Lists.{mem-getD}
 use Rattle.semantics.specs.Bounds.Steps.{rateAt, Stepped, leaves, arrives, lingers, idles, moves}
 use Rattle.semantics.specs.Bounds.Flow.{step-flow}

@@ -11,10 +11,10 @@ use borrow.Author.Tests.{eqb-true, eqb-false}
 use lib.Dec.{eqb}
 use lib.ListN.{length}
 use Rattle.semantics.specs.Automaton.{Automaton, Proper}
-use Rattle.semantics.specs.Path.{cost}
+use Rattle.semantics.specs.Order.{cost}
 use Rattle.semantics.specs.Chain.{Place, step}
 use Rattle.semantics.specs.Answer.{Answer, noRoute, route, better, behind, least, stopping, stepBytes, overSteps, bestFrom}
-use Rattle.semantics.specs.CornerGraph.{cornerGraph}
+use Rattle.semantics.specs.Graph.CornerGraph.{cornerGraph}
 use Rattle.semantics.specs.Corners.Lists.{mem-below}
 use Rattle.semantics.specs.Bounds.Reached.{Reached}
 use Rattle.semantics.specs.Paths.Cost.{cost-both}

@@ -1,7 +1,7 @@
 -- What the least costs from the start node say of the places of chains, where the goal is reached at the cost B.
 -- Assumes nothing.
 use mathlib.Core.Path.{_≡_, refl, subst}
-use mathlib.Core.Bool.{Bool, true, false, cond, _&&_}
+use mathlib.Core.Bool.{Bool, true, false, cond, _&&_, true≢false}
 use mathlib.Core.List.{List, [], _∷_}
 use mathlib.Core.Option.{some, Option·some-injective}
 use Prim.Native.Nat.{ℕ, suc, _+_, _≤_, _<_}
@@ -10,11 +10,12 @@ use lib.Dec.{leb}
 use borrow.Author.Tests.{le-leb, leb-true}
 use lib.ListN.{length}
 use Rattle.semantics.specs.Automaton.{Automaton, Proper}
-use Rattle.semantics.specs.Path.{Edge, Graph, IsPath, Target, Cost, cost, HasCost, Least, Entry, unreached, reached, LeastCosts}
-use Rattle.semantics.specs.Distance.{distance}
-use Rattle.semantics.specs.Near.{turned, near}
+use Rattle.semantics.specs.Order.{Cost, cost}
+use Rattle.semantics.specs.Graph.Path.{Edge, Graph, IsPath, Target, HasCost, Least, Entry, unreached, reached, LeastCosts}
+use Rattle.semantics.specs.Graph.Distance.{distance}
+use Rattle.semantics.specs.Graph.Near.{turned, near}
 use Rattle.semantics.specs.Chain.{Place, follow, begin, chain}
-use Rattle.semantics.specs.CornerGraph.{numberOf, startNode, cornerGraph}
+use Rattle.semantics.specs.Graph.CornerGraph.{numberOf, startNode, cornerGraph}
 use Rattle.semantics.specs.Regions.Compare.{and-true-iff}
 use Rattle.semantics.specs.Bounds.Prices.{price}
 use Rattle.semantics.specs.Bounds.Reached.{Reached, reached-begin}
@@ -37,13 +38,13 @@ near-keeps x y B b p q h k = rw (p, q, le-leb (b .charge) (B .charge) h, le-leb 
 -- Only such an entry is.
 pub near-kept :
     (x y : Entry) (B b : Cost) → x ≡ reached B → near x y ≡ reached b → (y ≡ reached b) × (b .charge ≤ B .charge) × (b .steps ≤ B .steps)
-near-kept x unreached B b p e = let n : near x unreached ≡ unreached = rw p refl in let z : _≡_ {A = ℕ} 0 1 = cc in absurd (omega arith)
+near-kept x unreached B b p e = let n : near x unreached ≡ unreached = rw p refl in absurd (true≢false cc)
 near-kept x (reached c) B b p e = at (leb (c .charge) (B .charge) && leb (c .steps) (B .steps)) refl (rw p at e)
   where
     at :
         (t : Bool) → (leb (c .charge) (B .charge) && leb (c .steps) (B .steps)) ≡ t → cond t (reached c) unreached ≡ reached b
         → (reached c ≡ reached b) × (b .charge ≤ B .charge) × (b .steps ≤ B .steps)
-    at false q f = let z : _≡_ {A = ℕ} 0 1 = cc in absurd (omega arith)
+    at false q f = absurd (true≢false cc)
     at true q f =
         let t = and-true-iff (leb (c .charge) (B .charge)) (leb (c .steps) (B .steps)) .0 q in
         let s : c ≡ b = cc in

@@ -9,13 +9,14 @@ use native.Mathlib.Omega.{arith}
 use lib.Dec.{eqb}
 use lib.ListN.{length}
 use Rattle.semantics.specs.Automaton.{Automaton, Proper}
-use Rattle.semantics.specs.Corner.{flatMap}
-use Rattle.semantics.specs.Path.{Edge, Leaves, Closed, WeightsWithin}
-use Rattle.semantics.specs.Node.{Node, nodeOf, nodeCount, nodeNumber, nodeAt}
+use Rattle.semantics.specs.Corners.Corner.{flatMap}
+use Rattle.semantics.specs.Graph.Path.{Edge, Leaves, Closed, WeightsWithin}
+use Rattle.semantics.specs.NodeCount.{nodeCount}
+use Rattle.semantics.specs.Nodes.Node.{Node, nodeOf, nodeNumber, nodeAt}
 use Rattle.semantics.specs.Chain.{Place, step}
-use Rattle.semantics.specs.CornerPath.{Edge as CornerEdge, edges, SamePlace}
+use Rattle.semantics.specs.Corners.Edges.{Edge as CornerEdge, edges, SamePlace}
 use Rattle.semantics.specs.Answer.{stepBytes}
-use Rattle.semantics.specs.CornerGraph.{nodePlace, numberOf, numbered, stepEdges, placeEdges, cornerGraph, PricesWithin}
+use Rattle.semantics.specs.Graph.CornerGraph.{nodePlace, numberOf, numbered, stepEdges, placeEdges, cornerGraph, PricesWithin}
 use Rattle.semantics.specs.Corners.Lists.{mem-below, mem-flatMap, mem-of-flatMap}
 use Rattle.semantics.specs.Nodes.Number.{nodeAt-node}
 use Rattle.semantics.specs.Bounds.Steps.{Stepped, leaves, arrives, lingers, idles, moves, step-view, view-step}

@@ -8,10 +8,10 @@ use native.Mathlib.Omega.{arith}
 use borrow.Author.Tests.{eqb-true, eq-eqb}
 use lib.ListN.{length}
 use Rattle.semantics.specs.Automaton.{Automaton, timers}
-use Rattle.semantics.specs.Corner.{cornerCount}
-use Rattle.semantics.specs.Path.{Graph, Target}
-use Rattle.semantics.specs.Node.{cellCount, nodeCount, nodeAt}
-use Rattle.semantics.specs.CornerGraph.{cornerGraph}
+use Rattle.semantics.specs.NodeCount.{cornerCount, cellCount, nodeCount}
+use Rattle.semantics.specs.Graph.Path.{Graph, Target}
+use Rattle.semantics.specs.Nodes.Node.{nodeAt}
+use Rattle.semantics.specs.Graph.CornerGraph.{cornerGraph}
 use Rattle.semantics.specs.Nodes.Radix.{factor-pos, quotient-below}
 
 -- The mode of the node with a number.

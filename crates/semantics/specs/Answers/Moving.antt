@@ -14,11 +14,11 @@ use lib.Dec.{ltb}
 use lib.ListN.{length, getD}
 use Rattle.semantics.specs.Automaton.{Automaton, modeAt, moveAt, Proper}
 use Rattle.semantics.specs.Region.{PricedRegion, top, alone, reset, resetAll, charge, meetsAll}
-use Rattle.semantics.specs.Path.{Edge, Leaves}
-use Rattle.semantics.specs.Node.{nodeNumber}
+use Rattle.semantics.specs.Graph.Path.{Edge, Leaves}
+use Rattle.semantics.specs.Nodes.Node.{nodeNumber}
 use Rattle.semantics.specs.Chain.{Place}
-use Rattle.semantics.specs.CornerPath.{Edge as CornerEdge, resetCorner, resetAllCorner, edges}
-use Rattle.semantics.specs.CornerGraph.{numberOf, numbered, placeEdges, cornerGraph}
+use Rattle.semantics.specs.Corners.Edges.{Edge as CornerEdge, resetCorner, resetAllCorner, edges}
+use Rattle.semantics.specs.Graph.CornerGraph.{numberOf, numbered, placeEdges, cornerGraph}
 use Rattle.semantics.specs.Run.{among}
 use Rattle.semantics.specs.Corners.Lists.{mem-getD}
 use Rattle.semantics.specs.Corners.Rising.{number-index}

@@ -10,12 +10,13 @@ use native.Mathlib.Omega.{arith}
 use lib.ListN.{length, getD, take, length-append}
 use lib.Seq.{take-append-seam, getD-append-seam}
 use Rattle.semantics.specs.Automaton.{Automaton, Proper}
-use Rattle.semantics.specs.Path.{Graph, Cost, cost, Entry, reached, _⊑_}
-use Rattle.semantics.specs.Distance.{distance}
-use Rattle.semantics.specs.Near.{turned, near}
+use Rattle.semantics.specs.Order.{Cost, cost, _⊑_}
+use Rattle.semantics.specs.Graph.Path.{Graph, Entry, reached}
+use Rattle.semantics.specs.Graph.Distance.{distance}
+use Rattle.semantics.specs.Graph.Near.{turned, near}
 use Rattle.semantics.specs.Chain.{Place, step, follow, begin, chain}
 use Rattle.semantics.specs.Answer.{Comes, route, answer}
-use Rattle.semantics.specs.CornerGraph.{numberOf, startNode, cornerGraph}
+use Rattle.semantics.specs.Graph.CornerGraph.{numberOf, startNode, cornerGraph}
 use Rattle.semantics.specs.Bounds.Prices.{price}
 use Rattle.semantics.specs.Bounds.Reached.{chain-reached}
 use Rattle.semantics.specs.Bounds.Steps.{step-view, chain-snoc}

@@ -10,11 +10,12 @@ use lib.ListN.{length, getD, replicate, length-replicate}
 use Rattle.semantics.specs.Automaton.{Automaton, timers, moveAt, Proper}
 use Rattle.semantics.specs.Region.{PricedRegion, WellFormed, top, charge}
 use Rattle.semantics.specs.Run.{among}
-use Rattle.semantics.specs.Corner.{corners}
-use Rattle.semantics.specs.Node.{Node, nodeOf, factor, IsCell, IsNode, nodeCount, nodeAt}
+use Rattle.semantics.specs.Corners.Corner.{corners}
+use Rattle.semantics.specs.NodeCount.{factor, nodeCount}
+use Rattle.semantics.specs.Nodes.Node.{Node, nodeOf, IsCell, IsNode, nodeAt}
 use Rattle.semantics.specs.Chain.{Place}
-use Rattle.semantics.specs.CornerPath.{SamePlace}
-use Rattle.semantics.specs.CornerGraph.{highest, nodePlace, numberOf}
+use Rattle.semantics.specs.Corners.Edges.{SamePlace}
+use Rattle.semantics.specs.Graph.CornerGraph.{highest, nodePlace, numberOf}
 use Rattle.semantics.specs.Regions.Count.{count-place}
 use Rattle.semantics.specs.Regions.Lengths.{prices-top, leave-timers, arrive-timers}
 use Rattle.semantics.specs.Regions.WellFormed.{leave-well-formed, arrive-well-formed}

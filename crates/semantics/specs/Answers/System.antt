@@ -11,10 +11,10 @@ use borrow.Author.Tests.{eqb-true, eq-eqb}
 use lib.ListN.{length, getD}
 use Rattle.semantics.specs.Automaton.{Automaton, Proper}
 use Rattle.semantics.specs.Region.{start}
-use Rattle.semantics.specs.Path.{Edge, Leaves, Target}
-use Rattle.semantics.specs.Node.{nodeCount}
+use Rattle.semantics.specs.Graph.Path.{Edge, Leaves, Target}
+use Rattle.semantics.specs.NodeCount.{nodeCount}
 use Rattle.semantics.specs.Chain.{Place, step, begin}
-use Rattle.semantics.specs.CornerGraph.{numberOf, startNode, numbered, cornerGraph}
+use Rattle.semantics.specs.Graph.CornerGraph.{numberOf, startNode, numbered, cornerGraph}
 use Rattle.semantics.specs.Corners.Lists.{mem-getD, mem-place}
 use Rattle.semantics.specs.Bounds.Prices.{price}
 use Rattle.semantics.specs.Bounds.Steps.{step-view}

@@ -6,10 +6,11 @@ use mathlib.Core.List.{List}
 use Prim.Native.Nat.{ℕ}
 use lib.ListN.{length}
 use Rattle.semantics.specs.Automaton.{Automaton, Proper}
-use Rattle.semantics.specs.Path.{Cost, Entry, unreached, reached, LeastCosts}
+use Rattle.semantics.specs.Order.{Cost}
+use Rattle.semantics.specs.Graph.Path.{Entry, unreached, reached, LeastCosts}
 use Rattle.semantics.specs.Chain.{begin}
 use Rattle.semantics.specs.Answer.{noRoute, route, answer}
-use Rattle.semantics.specs.CornerGraph.{startNode, cornerGraph}
+use Rattle.semantics.specs.Graph.CornerGraph.{startNode, cornerGraph}
 use Rattle.semantics.specs.Bounds.Reached.{Reached, reached-begin}
 use Rattle.semantics.specs.Paths.Labels.{best-map}
 use Rattle.semantics.specs.Paths.Route.{FirstFrom, Routing, LowerBound, Completes}

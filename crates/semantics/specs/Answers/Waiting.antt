@@ -12,10 +12,10 @@ use borrow.Author.Tests.{eq-eqb, ne-eqb, lt-ltb, le-ltb}
 use lib.Dec.{ltb}
 use Rattle.semantics.specs.Automaton.{Automaton, modeAt}
 use Rattle.semantics.specs.Region.{PricedRegion, WellFormed, count, top, leave, arrive, delay, meetsAll, within}
-use Rattle.semantics.specs.Path.{Edge, Leaves}
+use Rattle.semantics.specs.Graph.Path.{Edge, Leaves}
 use Rattle.semantics.specs.Chain.{Place}
-use Rattle.semantics.specs.CornerPath.{Edge as CornerEdge, passEdges, dropEdges, delayEdges, edges, SamePlace}
-use Rattle.semantics.specs.CornerGraph.{numberOf, numbered, cornerGraph}
+use Rattle.semantics.specs.Corners.Edges.{Edge as CornerEdge, passEdges, dropEdges, delayEdges, edges, SamePlace}
+use Rattle.semantics.specs.Graph.CornerGraph.{numberOf, numbered, cornerGraph}
 use Rattle.semantics.specs.Regions.Cases.{zero-cases, delay-arrive, delay-leave}
 use Rattle.semantics.specs.Regions.Lengths.{leave-top, arrive-top}
 use Rattle.semantics.specs.Regions.Groups.{top-pos}

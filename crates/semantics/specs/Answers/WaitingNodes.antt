@@ -11,10 +11,10 @@ use native.Mathlib.Omega.{arith}
 use borrow.Author.Tests.{eq-eqb, ne-eqb, eqb-true}
 use Rattle.semantics.specs.Automaton.{Automaton, Proper}
 use Rattle.semantics.specs.Region.{PricedRegion, WellFormed, count, top, noZero, delay, within}
-use Rattle.semantics.specs.Path.{Edge, Leaves}
+use Rattle.semantics.specs.Graph.Path.{Edge, Leaves}
 use Rattle.semantics.specs.Chain.{Place}
-use Rattle.semantics.specs.CornerPath.{Edge as CornerEdge, passEdges, lingerEdges, edges, SamePlace}
-use Rattle.semantics.specs.CornerGraph.{numberOf, numbered, cornerGraph}
+use Rattle.semantics.specs.Corners.Edges.{Edge as CornerEdge, passEdges, lingerEdges, edges, SamePlace}
+use Rattle.semantics.specs.Graph.CornerGraph.{numberOf, numbered, cornerGraph}
 use Rattle.semantics.specs.Regions.Cases.{zero-cases, delay-arrive, delay-leave}
 use Rattle.semantics.specs.Regions.Lengths.{leave-top, arrive-top, delay-timers}
 use Rattle.semantics.specs.Regions.Groups.{top-pos}

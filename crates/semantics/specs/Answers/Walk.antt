@@ -2,6 +2,7 @@
 -- again where no step leads on, and then never comes back to it. The first chain that comes into the goal is the route.
 -- Assumes nothing.
 use mathlib.Core.Path.{_≡_, refl, sym, ap, subst, _∙_}
+use mathlib.Core.Bool.{true≢false}
 use mathlib.Core.Logic.{_⊎_, inl, inr, _≢_}
 use mathlib.Core.List.{List, [], _∷_, _++_}
 use mathlib.Core.Option.{some}
@@ -11,12 +12,13 @@ use native.Mathlib.Omega.{arith}
 use lib.ListN.{length, getD, take, length-append, List·getD-append}
 use lib.Seq.{take-all, take-length, take-append-le, take-append-seam, getD-append-seam}
 use Rattle.semantics.specs.Automaton.{Automaton, Proper}
-use Rattle.semantics.specs.Path.{Graph, Cost, cost, Entry, unreached, reached}
-use Rattle.semantics.specs.Distance.{distance}
-use Rattle.semantics.specs.Near.{turned, near}
+use Rattle.semantics.specs.Order.{Cost, cost}
+use Rattle.semantics.specs.Graph.Path.{Graph, Entry, unreached, reached}
+use Rattle.semantics.specs.Graph.Distance.{distance}
+use Rattle.semantics.specs.Graph.Near.{turned, near}
 use Rattle.semantics.specs.Chain.{Place, step, follow, begin, chain}
 use Rattle.semantics.specs.Answer.{route, answer}
-use Rattle.semantics.specs.CornerGraph.{numberOf, startNode, cornerGraph}
+use Rattle.semantics.specs.Graph.CornerGraph.{numberOf, startNode, cornerGraph}
 use Rattle.semantics.specs.Bounds.Prices.{price}
 use Rattle.semantics.specs.Bounds.Reached.{Reached, chain-reached}
 use Rattle.semantics.specs.Paths.Turned.{plus}
@@ -288,7 +290,7 @@ module _ (a : Automaton) (ok : Proper a) (l : ℕ) (B : Cost) (best : distance (
 
         was : (v : ℕ) (c : Cost) → d′ v ≡ reached c → LeavesAt a d d′ p (length ks) v → d v ≡ reached c
         was v c e (inl x) = sym x ∙ e
-        was v c e (inr x) = let z : _≡_ {A = ℕ} 0 1 = cc in absurd (omega arith)
+        was v c e (inr x) = absurd (true≢false cc)
 
         gone :
             (v : ℕ) (c : Cost) → (d v ≡ reached c) ⊎ OffPaths g (startNode a) v → LeavesAt a d d′ p (length ks) v

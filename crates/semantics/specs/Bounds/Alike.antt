@@ -3,14 +3,13 @@
 -- Assumes nothing.
 use mathlib.Core.Path.{_≡_, refl, ap, _∙_, sym, subst}
 use mathlib.Core.List.{List, [], _∷_}
-use mathlib.Core.Option.{some, Option·some-injective}
 use Prim.Native.Nat.{ℕ}
 use Rattle.semantics.specs.Automaton.{Automaton, modeAt, moveAt}
 use Rattle.semantics.specs.Region.{PricedRegion, leave, arrive, reset}
-use Rattle.semantics.specs.Chain.{Place, follow}
-use Rattle.semantics.specs.CornerPath.{delayEdges, lingerEdges, resetCorner, resetAllCorner, edges, SameShape, SamePlace}
+use Rattle.semantics.specs.Chain.{Place}
+use Rattle.semantics.specs.Corners.Edges.{delayEdges, lingerEdges, resetCorner, resetAllCorner, edges, SameShape, SamePlace}
 use Rattle.semantics.specs.Regions.Cases.{lingered}
-use Rattle.semantics.specs.Bounds.Steps.{rateAt, movedBy, Stepped, leaves, arrives, lingers, idles, moves, step-view, view-step, follow-first, follow-cons}
+use Rattle.semantics.specs.Bounds.Steps.{rateAt, movedBy, Stepped, leaves, arrives, lingers, idles, moves}
 use Rattle.semantics.specs.Bounds.Shapes.{shape-sym, shape-trans, shape-linger, shape-leave, shape-arrive, shape-meetsAll, shape-admits, shape-reset, shape-move}
 
 -- The edges of a step go by the shape.
@@ -93,15 +92,3 @@ module _ (a : Automaton) where
   pub step-alike : (p s : Place) → SamePlace p s → {byte : ℕ} {p′ : Place} → Stepped a p byte p′ → StepsAlike a s byte p′
   step-alike p s e {byte} {p′} t =
       subst (λ (l : ℕ). StepsAlike a (record { mode = l; region = s .region }) byte p′) (e .mode) (step-region p (s .region) (e .region) t)
-
-  -- Any steps: if they are allowed from one they are allowed from the other, and lead to places of one shape.
-  pub follow-alike :
-      (bytes : List ℕ) (p s p′ : Place) → SamePlace p s → follow a bytes p ≡ some p′
-      → (s′ : Place) × (follow a bytes s ≡ some s′) × SamePlace p′ s′
-  unfolding follow
-  follow-alike [] p s p′ e h = (s, refl, subst (λ (u : Place). SamePlace u s) (Option·some-injective p p′ h) e)
-  follow-alike (byte ∷ bytes) p s p′ e h =
-      let f = follow-first a byte bytes p p′ h in
-      let t = step-alike p s e (step-view a p (f .0) byte (f .1)) in
-      let o = follow-alike bytes (f .0) (t .place) p′ (t .same) (f .2) in
-      (o .0, follow-cons a byte bytes s (t .place) (view-step a s (t .stepped)) ∙ o .1, o .2)

@@ -11,7 +11,7 @@ use lib.ListN.{length}
 use Rattle.semantics.specs.Automaton.{Automaton, timers, modeAt, moveAt, Proper}
 use Rattle.semantics.specs.Region.{PricedRegion, WellFormed, top, start, resetAll, meetsAll}
 use Rattle.semantics.specs.Run.{among, zeroed}
-use Rattle.semantics.specs.CornerPath.{resetAllCorner, SameShape}
+use Rattle.semantics.specs.Corners.Edges.{resetAllCorner, SameShape}
 use Rattle.semantics.specs.Bounds.Inside.{Inside, inside-shape, start-inside}
 use Rattle.semantics.specs.Bounds.Reset.{ResetTo}
 use Rattle.semantics.specs.Bounds.Sides.{Sides}

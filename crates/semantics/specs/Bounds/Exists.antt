@@ -9,7 +9,7 @@ use native.Mathlib.Omega.{arith}
 use Rattle.semantics.specs.Automaton.{Automaton, Proper}
 use Rattle.semantics.specs.Run.{Act, movesIn, RunInto}
 use Rattle.semantics.specs.Chain.{Place, chain, movesOf}
-use Rattle.semantics.specs.Floor.{NoChain}
+use Rattle.semantics.specs.Answer.{NoChain}
 use Rattle.semantics.specs.Demand.{NoRun}
 use Rattle.semantics.specs.Bounds.Reached.{chain-reached}
 use Rattle.semantics.specs.Bounds.Roundings.{roundings}

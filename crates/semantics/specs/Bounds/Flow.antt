@@ -11,7 +11,7 @@ use Rattle.semantics.specs.Automaton.{Automaton, timers, moveAt, Proper}
 use Rattle.semantics.specs.Region.{PricedRegion, WellFormed, count, top, leave, arrive, resetAll}
 use Rattle.semantics.specs.Run.{among}
 use Rattle.semantics.specs.Chain.{Place}
-use Rattle.semantics.specs.CornerPath.{Edge, passEdges, dropEdges, moveEdges, resetAllCorner, edges}
+use Rattle.semantics.specs.Corners.Edges.{Edge, passEdges, dropEdges, moveEdges, resetAllCorner, edges}
 use Rattle.semantics.specs.Regions.Cases.{lingered}
 use Rattle.semantics.specs.Regions.Lengths.{leave-top, arrive-top}
 use Rattle.semantics.specs.Regions.Groups.{top-pos}

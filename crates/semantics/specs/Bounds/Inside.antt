@@ -9,7 +9,7 @@ use native.Mathlib.Omega.{arith}
 use lib.ListN.{length, getD}
 use Rattle.semantics.specs.Region.{PricedRegion, WellFormed, count, top, start, leave, arrive}
 use Rattle.semantics.specs.Point.{Point}
-use Rattle.semantics.specs.CornerPath.{SameShape}
+use Rattle.semantics.specs.Corners.Edges.{SameShape}
 use Rattle.semantics.specs.Regions.Lists.{replicate-zero}
 use Rattle.semantics.specs.Regions.Lengths.{start-prices, leave-top, arrive-timers, arrive-top, prices-top}
 use Rattle.semantics.specs.Regions.Points.{pointOf}

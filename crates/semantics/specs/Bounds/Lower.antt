@@ -3,7 +3,7 @@
 use Prim.Native.Nat.{ℕ}
 use native.Mathlib.Omega.{arith}
 use Rattle.semantics.specs.Automaton.{Automaton, Proper}
-use Rattle.semantics.specs.Floor.{Floor}
+use Rattle.semantics.specs.Bounds.Floor.{Floor}
 use Rattle.semantics.specs.Demand.{AtLeast}
 use Rattle.semantics.specs.Regions.Lengths.{prices-top}
 use Rattle.semantics.specs.Bounds.Reached.{chain-reached}

@@ -11,7 +11,7 @@ use lib.ListN.{length}
 use Rattle.semantics.specs.Automaton.{Automaton, timers, modeAt, moveAt, Proper}
 use Rattle.semantics.specs.Region.{PricedRegion, WellFormed, top, resetAll, meetsAll}
 use Rattle.semantics.specs.Run.{among, zeroed, BelowCeilings}
-use Rattle.semantics.specs.CornerPath.{resetAllCorner}
+use Rattle.semantics.specs.Corners.Edges.{resetAllCorner}
 use Rattle.semantics.specs.Regions.Lengths.{resetAll-timers, charge-timers}
 use Rattle.semantics.specs.Regions.WellFormed.{resetAll-well-formed, charge-well-formed}
 use Rattle.semantics.specs.Regions.Points.{pointOf}

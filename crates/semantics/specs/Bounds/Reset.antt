@@ -14,7 +14,7 @@ use lib.Dec.{eqb, ltb}
 use lib.ListN.{length, getD, set, length-set, length-map}
 use lib.Seq.{getD-set-same, getD-set-other}
 use Rattle.semantics.specs.Region.{PricedRegion, WellFormed, count, top, alone, reset}
-use Rattle.semantics.specs.CornerPath.{resetCorner}
+use Rattle.semantics.specs.Corners.Edges.{resetCorner}
 use Rattle.semantics.specs.Regions.Lists.{getD-map}
 use Rattle.semantics.specs.Regions.Count.{count-pos, count-set-out}
 use Rattle.semantics.specs.Regions.Renumber.{lowered}

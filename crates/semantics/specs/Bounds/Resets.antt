@@ -10,7 +10,7 @@ use lib.Dec.{eqb}
 use lib.ListN.{length, getD}
 use Rattle.semantics.specs.Region.{PricedRegion, WellFormed, top, reset, resetAll}
 use Rattle.semantics.specs.Run.{among}
-use Rattle.semantics.specs.CornerPath.{resetCorner, resetAllCorner}
+use Rattle.semantics.specs.Corners.Edges.{resetCorner, resetAllCorner}
 use Rattle.semantics.specs.Regions.Lengths.{prices-top, reset-timers}
 use Rattle.semantics.specs.Regions.WellFormed.{reset-well-formed, resetAll-well-formed}
 use Rattle.semantics.specs.Bounds.Inside.{Inside}

@@ -11,7 +11,7 @@ use Rattle.semantics.specs.Automaton.{Automaton, timers, modeAt, moveAt,
 use Rattle.semantics.specs.Region.{start}
 use Rattle.semantics.specs.Run.{State, initial, Act, wait, move, among, zeroed, after, AllHold, Stays, AllAllowed, final, chargeFrom, charge}
 use Rattle.semantics.specs.Chain.{chain, follow}
-use Rattle.semantics.specs.CornerPath.{resetAllCorner}
+use Rattle.semantics.specs.Corners.Edges.{resetAllCorner}
 use Rattle.semantics.specs.Regions.Lengths.{start-prices}
 use Rattle.semantics.specs.Bounds.Inside.{start-inside}
 use Rattle.semantics.specs.Bounds.Prices.{price}

@@ -13,7 +13,7 @@ use lib.ListN.{length, length-set}
 use Rattle.semantics.specs.Condition.{Condition}
 use Rattle.semantics.specs.Automaton.{Automaton, modeAt, moveAt}
 use Rattle.semantics.specs.Region.{PricedRegion, WellFormed, top, merge, leave, arrive, delay, reset, resetAll, charge, meets, meetsAll, withinFrom, within}
-use Rattle.semantics.specs.CornerPath.{SameShape}
+use Rattle.semantics.specs.Corners.Edges.{SameShape}
 use Rattle.semantics.specs.Regions.Cases.{zero-cases, delay-arrive, delay-leave, lingered, resetAlone, resetJoined, reset-alone, reset-joined, alone-cases}
 use Rattle.semantics.specs.Regions.Lengths.{leave-prices, arrive-prices, charge-prices}
 use Rattle.semantics.specs.Bounds.Stays.{Admits}

@@ -14,7 +14,7 @@ use lib.ListN.{length, getD}
 use Rattle.semantics.specs.Automaton.{Automaton, timers, modeAt, moveAt, Proper}
 use Rattle.semantics.specs.Region.{PricedRegion, WellFormed, count, top, start, leave, arrive, meetsAll}
 use Rattle.semantics.specs.Chain.{Place, follow, begin, chain, movesOf}
-use Rattle.semantics.specs.CornerPath.{Edge}
+use Rattle.semantics.specs.Corners.Edges.{Edge}
 use Rattle.semantics.specs.Demand.{Approached}
 use Rattle.semantics.specs.Regions.Cases.{lingered}
 use Rattle.semantics.specs.Regions.Groups.{top-pos}

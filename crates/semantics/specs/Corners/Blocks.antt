@@ -9,7 +9,8 @@ use native.Mathlib.Decide.{decLt, ℕ-discrete}
 use borrow.Author.Tests.{eq-eqb}
 use lib.ListN.{length, getD, length-map}
 use Rattle.semantics.specs.Region.{count}
-use Rattle.semantics.specs.Corner.{WeakOrder, countFrom, raised, joining, opening, extended}
+use Rattle.semantics.specs.Answer.{countFrom}
+use Rattle.semantics.specs.Corners.Corner.{WeakOrder, raised, joining, opening, extended}
 use Rattle.semantics.specs.Regions.Lists.{getD-map}
 use Rattle.semantics.specs.Regions.Count.{count-pos, count-place, count-map, count-other}
 use Rattle.semantics.specs.Regions.Renumber.{lowered, lowered-low, lowered-high, lowered-below}

@@ -11,7 +11,8 @@ use native.Mathlib.Decide.{decLt}
 use lib.Dec.{eqb·suc-zero}
 use lib.ListN.{length, getD, length-map, List·getD-eq-default}
 use Rattle.semantics.specs.Region.{PricedRegion, WellFormed, count, top}
-use Rattle.semantics.specs.Corner.{Corner, cornerOf, WeakOrder, countFrom, flatMap, weakOrders, regionCorners, zeroCorners, openCorners, corners}
+use Rattle.semantics.specs.Answer.{countFrom}
+use Rattle.semantics.specs.Corners.Corner.{Corner, cornerOf, WeakOrder, flatMap, weakOrders, regionCorners, zeroCorners, openCorners, corners}
 use Rattle.semantics.specs.Regions.Lists.{getD-map, map-below}
 use Rattle.semantics.specs.Regions.Count.{count-pos, count-map, count-map-suc}
 use Rattle.semantics.specs.Regions.Cases.{zero-cases}

@@ -7,7 +7,9 @@ use native.Mathlib.Nat.{mul-one, one-mul, suc-mul, zero-mul, zero-add, add-zero,
 use native.Mathlib.Numerals.{add-one}
 use native.Mathlib.Omega.{arith}
 use lib.ListN.{length, length-append, length-map}
-use Rattle.semantics.specs.Corner.{WeakOrder, countFrom, flatMap, joining, opening, extended, weakOrders, zeroCorners, openCorners, corners, cornerCount}
+use Rattle.semantics.specs.Answer.{countFrom}
+use Rattle.semantics.specs.NodeCount.{cornerCount}
+use Rattle.semantics.specs.Corners.Corner.{WeakOrder, flatMap, joining, opening, extended, weakOrders, zeroCorners, openCorners, corners}
 use Rattle.semantics.specs.Corners.Lists.{length-countFrom}
 
 -- The sum of a number for each entry.
@@ -87,13 +89,3 @@ corners-length n =
     ∙ weakOrders-count n 1
     ∙ ap (λ (k : ℕ). cornerCount k 0) (add-one n)
     ∙ omega (arith, zero-mul (cornerCount n 0), one-mul (cornerCount n 1))
-
--- "3, 13 or 75 for one, two or three timers".
-pub one-timer : cornerCount 1 1 ≡ 3
-one-timer = refl
-
-pub two-timers : cornerCount 2 1 ≡ 13
-two-timers = refl
-
-pub three-timers : cornerCount 3 1 ≡ 75
-three-timers = refl

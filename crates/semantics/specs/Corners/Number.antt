@@ -8,7 +8,8 @@ use native.Mathlib.Nat.{le-of-suc-le-suc, not-suc-le-zero}
 use borrow.Author.Tests.{eqb-true, eq-eqb}
 use lib.Dec.{eqb}
 use lib.ListN.{length, getD}
-use Rattle.semantics.specs.Corner.{Corner, corners, cornerCount, sameList, sameCorner, placeIn, cornerNumber, cornerAt}
+use Rattle.semantics.specs.NodeCount.{cornerCount}
+use Rattle.semantics.specs.Corners.Corner.{Corner, corners, sameList, sameCorner, placeIn, cornerNumber, cornerAt}
 use Rattle.semantics.specs.Regions.Compare.{and-true-iff}
 use Rattle.semantics.specs.Corners.Lists.{Distinct, mem-getD, mem-place}
 use Rattle.semantics.specs.Corners.Count.{corners-length}

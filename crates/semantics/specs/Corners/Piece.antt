@@ -8,7 +8,7 @@ use native.Mathlib.Nat.{zero-add, add-assoc}
 use native.Mathlib.Omega.{arith}
 use lib.ListN.{length, getD, length-append, List·getD-append}
 use lib.Seq.{getD-append-add}
-use Rattle.semantics.specs.Corner.{flatMap}
+use Rattle.semantics.specs.Corners.Corner.{flatMap}
 
 -- s stands in l from place p on.
 pub record Piece {A : Type 0} (s l : List A) (p : ℕ) : Type 0 where

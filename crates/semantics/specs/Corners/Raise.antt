@@ -9,7 +9,7 @@ use native.Mathlib.Decide.{decLt}
 use borrow.Author.Tests.{eqb-false, le-leb, lt-leb, lt-ltb, le-ltb}
 use lib.Dec.{eqb}
 use Rattle.semantics.specs.Region.{count}
-use Rattle.semantics.specs.Corner.{raised}
+use Rattle.semantics.specs.Corners.Corner.{raised}
 use Rattle.semantics.specs.Regions.Count.{count-map-none}
 use Rattle.semantics.specs.Regions.Renumber.{lowered}
 

@@ -8,7 +8,8 @@ use native.Mathlib.Nat.{zero-add}
 use native.Mathlib.Omega.{arith}
 use lib.ListN.{length, getD, length-map, List·getD-map}
 use Rattle.semantics.specs.Region.{PricedRegion, WellFormed, count, top, leave}
-use Rattle.semantics.specs.Corner.{Corner, cornerOf, countFrom, flatMap, weakOrders, regionCorners, zeroCorners, openCorners, corners, cornerNumber}
+use Rattle.semantics.specs.Answer.{countFrom}
+use Rattle.semantics.specs.Corners.Corner.{Corner, cornerOf, flatMap, weakOrders, regionCorners, zeroCorners, openCorners, corners, cornerNumber}
 use Rattle.semantics.specs.Regions.Count.{count-map-suc}
 use Rattle.semantics.specs.Regions.Cases.{zero-cases}
 use Rattle.semantics.specs.Regions.Groups.{top-pos}

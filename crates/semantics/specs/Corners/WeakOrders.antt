@@ -9,7 +9,8 @@ use native.Mathlib.Nat.{not-suc-le-zero}
 use native.Mathlib.Omega.{arith}
 use lib.ListN.{length, getD, length-map}
 use Rattle.semantics.specs.Region.{count}
-use Rattle.semantics.specs.Corner.{WeakOrder, countFrom, raised, joining, opening, extended, weakOrders}
+use Rattle.semantics.specs.Answer.{countFrom}
+use Rattle.semantics.specs.Corners.Corner.{WeakOrder, raised, joining, opening, extended, weakOrders}
 use Rattle.semantics.specs.Regions.Renumber.{lowered}
 use Rattle.semantics.specs.Corners.Lists.{below-bound, mem-flatMap, mem-of-flatMap, Distinct, distinct-append, distinct-map, distinct-flatMap, distinct-countFrom}
 use Rattle.semantics.specs.Corners.Raise.{count-raised, lower-raise}

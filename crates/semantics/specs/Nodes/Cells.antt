@@ -10,7 +10,8 @@ use native.Mathlib.Omega.{arith}
 use lib.Dec.{eqb}
 use lib.ListN.{length, getD}
 use Rattle.semantics.specs.Region.{count, risen}
-use Rattle.semantics.specs.Node.{factor, IsCell, cellCount, cellNumber, cellAt}
+use Rattle.semantics.specs.NodeCount.{factor, cellCount}
+use Rattle.semantics.specs.Nodes.Node.{IsCell, cellNumber, cellAt}
 use Rattle.semantics.specs.Nodes.Radix.{pair-below, quotient-below, pair-quotient, pair-remainder}
 
 cell-tail : {c w : ℕ} {cs ws : List ℕ} → IsCell (c ∷ cs) (w ∷ ws) → IsCell cs ws

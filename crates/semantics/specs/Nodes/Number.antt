@@ -5,8 +5,9 @@ use Prim.Native.Nat.{ℕ, _+_, _*_, _/_, _%_, _<_}
 use native.Mathlib.Nat.{mod-lt, div-add-mod'}
 use lib.ListN.{length}
 use Rattle.semantics.specs.Automaton.{Automaton, timers}
-use Rattle.semantics.specs.Corner.{cornerCount, cornerNumber, cornerAt}
-use Rattle.semantics.specs.Node.{Node, IsNode, cellCount, cellNumber, cellAt, nodeCount, nodeNumber, nodeAt}
+use Rattle.semantics.specs.NodeCount.{cornerCount, cellCount, nodeCount}
+use Rattle.semantics.specs.Corners.Corner.{cornerNumber, cornerAt}
+use Rattle.semantics.specs.Nodes.Node.{Node, IsNode, cellNumber, cellAt, nodeNumber, nodeAt}
 use Rattle.semantics.specs.Corners.Number.{number-below, cornerAt-number, number-cornerAt, cornerAt-listed}
 use Rattle.semantics.specs.Nodes.Radix.{pair-below, factor-pos, quotient-below, pair-quotient, pair-remainder}
 use Rattle.semantics.specs.Nodes.Cells.{cellNumber-below, cellAt-number, number-cellAt, cellAt-cell}

@@ -1,18 +1,15 @@
 -- The corners of a region that stays at or below the ceilings are nodes.
 -- Assumes nothing.
-use mathlib.Core.Path.{_≡_, subst}
+use mathlib.Core.Path.{_≡_}
 use mathlib.Core.Bool.{true}
-use mathlib.Core.List.{List, List·Memᴰ}
+use mathlib.Core.List.{List}
 use Prim.Native.Nat.{ℕ, suc, _+_, _*_, _<_, _≤_}
 use native.Mathlib.Nat.{le-of-mul-le-mul-left}
 use native.Mathlib.Omega.{arith}
 use lib.ListN.{length, getD}
-use Rattle.semantics.specs.Automaton.{Automaton, timers}
 use Rattle.semantics.specs.Region.{PricedRegion, WellFormed, top, within}
-use Rattle.semantics.specs.Corner.{cornerOf, corners}
-use Rattle.semantics.specs.Node.{nodeOf, IsNode, IsCell}
+use Rattle.semantics.specs.Nodes.Node.{IsCell}
 use Rattle.semantics.specs.Regions.Points.{pointOf, region-point, within-points}
-use Rattle.semantics.specs.Corners.Complete.{corner-listed}
 
 module _ (r : PricedRegion) (w : WellFormed r) where
   -- The whole parts are at or below the ceilings.
@@ -27,12 +24,3 @@ module _ (r : PricedRegion) (w : WellFormed r) where
 
   pub within-cell : (ceilings : List ℕ) → length (r .whole) ≡ length ceilings → within ceilings r ≡ true → IsCell ceilings (r .whole)
   within-cell ceilings e t = record { sized = e; below = λ x h. omega (arith, within-whole ceilings (omega arith) t x h) }
-
-  pub region-node :
-      (a : Automaton) (mode j : ℕ) → mode < length (a .modes) → length (r .whole) ≡ timers a → within (a .ceilings) r ≡ true
-      → j < length (r .prices) → IsNode a (nodeOf mode r j)
-  region-node a mode j m e t h = record {
-    mode = m;
-    cell = within-cell (a .ceilings) e t;
-    corner = subst (λ (n : ℕ). List·Memᴰ (cornerOf r j) (corners n)) e (corner-listed r w j h);
-  }

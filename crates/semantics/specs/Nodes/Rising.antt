@@ -8,8 +8,9 @@ use native.Mathlib.Omega.{arith}
 use lib.ListN.{length}
 use Rattle.semantics.specs.Automaton.{Automaton, timers}
 use Rattle.semantics.specs.Region.{PricedRegion, WellFormed, count, top, leave, arrive, delay}
-use Rattle.semantics.specs.Corner.{cornerOf, corners, cornerCount, cornerNumber}
-use Rattle.semantics.specs.Node.{nodeOf, cellNumber, nodeNumber}
+use Rattle.semantics.specs.NodeCount.{cornerCount}
+use Rattle.semantics.specs.Corners.Corner.{cornerOf, corners, cornerNumber}
+use Rattle.semantics.specs.Nodes.Node.{nodeOf, cellNumber, nodeNumber}
 use Rattle.semantics.specs.Regions.Cases.{zero-cases, delay-arrive, delay-leave}
 use Rattle.semantics.specs.Regions.Groups.{top-pos, top-full}
 use Rattle.semantics.specs.Corners.Complete.{corner-listed}

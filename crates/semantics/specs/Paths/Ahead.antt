@@ -3,14 +3,14 @@
 -- lowered meanwhile is noted or still to come. Nodes charged more than some target is, and targets, are not followed.
 -- Assumes nothing.
 use mathlib.Core.Path.{_≡_, refl, _∙_, sym}
-use mathlib.Core.Bool.{Bool, true, false, _||_}
+use mathlib.Core.Bool.{Bool, true, false, _||_, true≢false}
 use mathlib.Core.Logic.{_⊎_, inl, inr}
 use mathlib.Core.List.{List}
 use Prim.Native.Nat.{ℕ, _/_, _≤_, _<_}
 use native.Mathlib.Omega.{arith}
 use lib.ListN.{length, getD}
-use Rattle.semantics.specs.Path.{Edge, Graph, Leaves, Target, Entry, unreached, reached, Relaxed, infinity, chargeAt, table}
-use Rattle.semantics.specs.Near.{turn, turned}
+use Rattle.semantics.specs.Graph.Path.{Edge, Graph, Leaves, Target, Entry, unreached, reached, Relaxed, infinity, chargeAt, table}
+use Rattle.semantics.specs.Graph.Near.{turn, turned}
 use Rattle.semantics.specs.Paths.Cost.{cost-both, cost-charge}
 use Rattle.semantics.specs.Paths.Distance.{within-cost}
 use Rattle.semantics.specs.Paths.Words.{reached-words, unreached-words}
@@ -148,7 +148,7 @@ pass-then {g} {s} {block} {low} {lo} {hi} {ws} {pend} {ws′} {pend′} {ws″} 
 }
   where
     still : (b : Bool) → p .changed ≡ b → (b || q .changed) ≡ false → pend″ ≡ pend
-    still true f e = let z : _≡_ {A = ℕ} 0 1 = cc in absurd (omega arith)
+    still true f e = absurd (true≢false cc)
     still false f e = q .still e ∙ p .still f
 
     at :

@@ -1,15 +1,15 @@
 -- How the best of several kinds of lists of labels is put together, for a search that recurs over all lists: the better of the best of each
 -- kind, and a label before the best of the rest.
 -- Assumes nothing.
-use mathlib.Core.Path.{_≡_, refl, sym, ap}
+use mathlib.Core.Path.{_≡_, refl, ap}
 use mathlib.Core.Logic.{_⊎_, inl, inr, ⊎-elim}
 use mathlib.Core.List.{List, _∷_}
 use Prim.Native.Nat.{ℕ, suc}
 use native.Mathlib.Omega.{arith}
 use lib.ListN.{length}
-use Rattle.semantics.specs.Path.{Cost, cost, _≼_, _≺_, _⊑_, Best}
-use Rattle.semantics.specs.Paths.Cost.{cost-trans, cost-weaken, cost-antisymm, cost-total, not-both}
-use Rattle.semantics.specs.Paths.Labels.{labels-trans, labels-total, best-map}
+use Rattle.semantics.specs.Order.{Cost, cost, _≼_, _≺_, _⊑_, Best}
+use Rattle.semantics.specs.Paths.Cost.{cost-trans, cost-weaken, not-both}
+use Rattle.semantics.specs.Paths.Labels.{labels-trans, best-map}
 
 -- Lists of either kind.
 abbrev pub Either : (List ℕ → ℕ → Type 0) → (List ℕ → ℕ → Type 0) → List ℕ → ℕ → Type 0
@@ -24,18 +24,6 @@ pub record Before (l : ℕ) (P : List ℕ → ℕ → Type 0) (ls : List ℕ) (c
 -- By charge, then steps, then label order, (c, ls) comes no later than (b, ms).
 abbrev pub NoLater : Cost → List ℕ → Cost → List ℕ → Type 0
 NoLater c ls b ms = (c ≺ b) ⊎ ((c ≡ b) × (ls ⊑ ms))
-
-pub no-later-total : (c b : Cost) (ls ms : List ℕ) → NoLater c ls b ms ⊎ NoLater b ms c ls
-no-later-total c b ls ms = at (cost-total c b) (cost-total b c)
-  where
-    tie : c ≡ b → (ls ⊑ ms) ⊎ (ms ⊑ ls) → NoLater c ls b ms ⊎ NoLater b ms c ls
-    tie e (inl h) = inl (inr (e, h))
-    tie e (inr h) = inr (inr (sym e, h))
-
-    at : (c ≼ b) ⊎ (b ≺ c) → (b ≼ c) ⊎ (c ≺ b) → NoLater c ls b ms ⊎ NoLater b ms c ls
-    at x (inr y) = inl (inl y)
-    at (inr x) (inl y) = inr (inl x)
-    at (inl x) (inl y) = tie (cost-antisymm c b x y) (labels-total ls ms)
 
 module _ {P Q : List ℕ → ℕ → Type 0} where
   -- The best of the one kind comes no later than that of the other: it is the best of both.

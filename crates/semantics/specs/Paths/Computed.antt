@@ -6,9 +6,9 @@ use Prim.Native.Nat.{ℕ, zero, suc, pred, _+_, _<_}
 use native.Mathlib.Nat.{zero-add}
 use native.Mathlib.Omega.{arith}
 use lib.ListN.{getD}
-use Rattle.semantics.specs.Corner.{countFrom}
-use Rattle.semantics.specs.Path.{Edge, Graph, Closed, Entry, unreached}
-use Rattle.semantics.specs.Distance.{offered, lesser, relaxed, targetEntry, upTo, distance}
+use Rattle.semantics.specs.Answer.{countFrom}
+use Rattle.semantics.specs.Graph.Path.{Edge, Graph, Closed, Entry, unreached}
+use Rattle.semantics.specs.Graph.Distance.{offered, lesser, relaxed, targetEntry, upTo, distance}
 
 -- One round: every node's entry by the edges that leave it and the entries d.
 abbrev pub round : (ℕ → Entry) → List (List Edge) → List Entry → List Entry

@@ -1,12 +1,15 @@
 -- The order of costs, by charge and then by steps: a total order, kept by an edge before both sides, with induction over it.
 -- Assumes nothing.
 use mathlib.Core.Path.{_≡_, sym, subst}
+use mathlib.Core.Bool.{true, false}
 use mathlib.Core.Logic.{_⊎_, inl, inr}
 use Prim.Native.Nat.{ℕ, zero, suc, _≤_, _<_}
 use native.Mathlib.Nat.{le-refl}
 use native.Mathlib.Decide.{decLt}
 use native.Mathlib.Omega.{arith}
-use Rattle.semantics.specs.Path.{Edge, Cost, _≼_, _≺_, along}
+use borrow.Author.Tests.{lt-ltb, le-ltb, eq-eqb, ne-eqb}
+use Rattle.semantics.specs.Order.{Cost, _≼_, _≺_, isLess}
+use Rattle.semantics.specs.Graph.Path.{Edge, along}
 
 pub cost-trans : (a b c : Cost) → a ≼ b → b ≼ c → a ≼ c
 cost-trans a b c (inl x) (inl y) = inl (omega arith)
@@ -36,6 +39,15 @@ cost-total a b = at (decLt (a .charge) (b .charge)) (decLt (b .charge) (a .charg
 pub cost-weaken : (a b : Cost) → a ≺ b → a ≼ b
 cost-weaken a b (inl x) = inl x
 cost-weaken a b (inr x) = inr (omega arith)
+
+-- What the test of it says.
+pub less-true : (a b : Cost) → a ≺ b → isLess a b ≡ true
+less-true a b (inl h) = rw (lt-ltb (a .charge) (b .charge) h)
+less-true a b (inr h) = rw (le-ltb (a .charge) (b .charge) (omega (arith, h .0)), eq-eqb (a .charge) (b .charge) (h .0), lt-ltb (a .steps) (b .steps) (h .1))
+
+pub less-false : (a b : Cost) → b ≼ a → isLess a b ≡ false
+less-false a b (inl h) = rw (le-ltb (a .charge) (b .charge) (omega arith), ne-eqb (a .charge) (b .charge) (λ e. omega arith))
+less-false a b (inr h) = rw (le-ltb (a .charge) (b .charge) (omega (arith, h .0)), eq-eqb (a .charge) (b .charge) (sym (h .0)), le-ltb (a .steps) (b .steps) (h .1))
 
 -- A cost may be put for one that is the same.
 pub same-less : (a b c : Cost) → a ≡ b → b ≼ c → a ≼ c

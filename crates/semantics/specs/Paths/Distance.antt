@@ -8,7 +8,8 @@ use Prim.Native.Nat.{ℕ, suc, _≤_, _<_}
 use native.Mathlib.Nat.{le-refl}
 use native.Mathlib.Decide.{decLt}
 use native.Mathlib.Omega.{arith}
-use Rattle.semantics.specs.Path.{Edge, Graph, Leaves, Closed, IsPath, Cost, costOf, _≼_, _≺_, HasCost, Entry, unreached, reached, LeastCosts, Attained, Within, along, Settled}
+use Rattle.semantics.specs.Order.{Cost, _≼_, _≺_}
+use Rattle.semantics.specs.Graph.Path.{Edge, Graph, Leaves, Closed, IsPath, costOf, HasCost, Entry, unreached, reached, LeastCosts, Attained, Within, along, Settled}
 use Rattle.semantics.specs.Paths.Cost.{cost-trans, cost-weaken, cost-fewer, cost-along, cost-induction}
 use Rattle.semantics.specs.Paths.Loops.{Shorter, loop-removal}
 

@@ -1,6 +1,7 @@
 -- The first number at which a function has a value.
 -- Assumes nothing.
 use mathlib.Core.Path.{_≡_, refl}
+use mathlib.Core.Bool.{true≢false}
 use mathlib.Core.Option.{Option, none, some}
 use Prim.Native.Nat.{ℕ, zero, suc, _+_, _≤_, _<_}
 use native.Mathlib.Decide.{ℕ-discrete}
@@ -29,8 +30,7 @@ firstSome-found {A} f (suc n) i k a passed low high e = go (f i) refl (firstSome
     above : f i ≡ none → Dec (k ≡ i) → suc i ≤ k
     above q (yes h) =
         let x : f i ≡ some a = rw h at e in
-        let z : _≡_ {A = ℕ} 0 1 = cc in
-        absurd (omega arith)
+        absurd (true≢false cc)
     above q (no h) = omega arith
 
     earlier : f i ≡ none → (j : ℕ) → j < suc i → Dec (j ≡ i) → f j ≡ none

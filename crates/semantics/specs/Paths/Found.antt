@@ -6,9 +6,11 @@ use mathlib.Core.List.{List, [], _∷_, _++_, append-assoc}
 use Prim.Native.Nat.{ℕ, zero, suc, _+_, _*_, _≤_, _<_}
 use native.Mathlib.Omega.{arith}
 use lib.ListN.{length, getD, drop}
-use Rattle.semantics.specs.Corner.{countFrom, flatMap}
-use Rattle.semantics.specs.Path.{Cost, Entry, unreached, reached, infinity, chargeAt, stepsAt, table}
-use Rattle.semantics.specs.Distance.{entryWords}
+use Rattle.semantics.specs.Answer.{countFrom}
+use Rattle.semantics.specs.Corners.Corner.{flatMap}
+use Rattle.semantics.specs.Order.{Cost}
+use Rattle.semantics.specs.Graph.Path.{Entry, unreached, reached, infinity, chargeAt, stepsAt, table}
+use Rattle.semantics.specs.Graph.Distance.{entryWords}
 use Rattle.semantics.specs.Paths.Words.{table-unreached, table-holds, reached-words, unreached-words}
 use Rattle.semantics.specs.Paths.Update.{Blank}
 

@@ -2,7 +2,7 @@
 -- from which the cost can be completed. It can be computed, and it gives the first labels of least cost.
 -- Assumes nothing.
 use mathlib.Core.Path.{_≡_, refl, sym, ap, _∙_, subst}
-use mathlib.Core.Bool.{Bool, true, false, _&&_, _||_, or-true}
+use mathlib.Core.Bool.{Bool, true, false, _&&_, _||_, or-true, true≢false}
 use mathlib.Core.List.{List, [], _∷_}
 use mathlib.Core.Option.{Option, none, some}
 use Prim.Native.Nat.{ℕ, zero, suc, _+_, _≤_, _<_}
@@ -10,12 +10,12 @@ use native.Mathlib.Decide.{ℕ-discrete}
 use native.Mathlib.Omega.{arith}
 use lib.Dec.{eqb}
 use borrow.Author.Tests.{eq-eqb, eqb-true}
-use Rattle.semantics.specs.Path.{Graph, Cost, cost, Entry, unreached, reached, Best}
+use Rattle.semantics.specs.Order.{Cost, cost}
+use Rattle.semantics.specs.Graph.Path.{Graph, Entry, unreached, reached}
 use Rattle.semantics.specs.Regions.Compare.{and-true-iff}
 use Rattle.semantics.specs.Paths.FirstSome.{firstSome, Found, firstSome-found}
-use Rattle.semantics.specs.Paths.System.{System, Arrives}
+use Rattle.semantics.specs.Paths.System.{System}
 use Rattle.semantics.specs.Paths.Route.{Completes, LowerBound, Picks, Onward, FirstFrom, Routing, bound-step, completes-onward, first-more, first-none}
-use Rattle.semantics.specs.Paths.Start.{StartsAt, start-completes, start-bound, start-best}
 
 -- Whether a price and an entry add up to c.
 abbrev pub adds : ℕ → Entry → Cost → Bool
@@ -48,7 +48,7 @@ module _ (s : System) (d : ℕ → Entry) where
 adds-true :
     (c : Cost) (price : ℕ) (e : Entry) → adds price e c ≡ true
     → (left : ℕ) × (e ≡ reached (cost left (c .steps))) × (price + left ≡ c .charge)
-adds-true c price unreached t = let z : _≡_ {A = ℕ} 0 1 = cc in absurd (omega arith)
+adds-true c price unreached t = absurd (true≢false cc)
 adds-true c price (reached b) t =
     let p = and-true-iff (eqb (price + b .charge) (c .charge)) (eqb (b .steps) (c .steps)) .0 t in
     let n = eqb-true (b .steps) (c .steps) (p .1) in
@@ -64,7 +64,7 @@ module _ (s : System) (d : ℕ → Entry) (x : s .State) (c : Cost) where
   adds-at j = adds (s .price x j) (d (s .node x j)) c
 
   some-true : (n : ℕ) → n ≤ s .corners x → someAdds s d x c n ≡ true → Completes s d x c
-  some-true zero h t = let z : _≡_ {A = ℕ} 0 1 = cc in absurd (omega arith)
+  some-true zero h t = absurd (true≢false cc)
   some-true (suc j) h t = go (adds-at j) refl t (some-true j (omega arith))
     where
       go :
@@ -161,11 +161,3 @@ module _ {g : Graph} {s : System} {Valid : s .State → Type 0} {d : ℕ → Ent
           let rest = ih y valid (bound-step r x C n ok bound y (f .place) (p .step)) (p .completes) in
           subst (λ (k : Option (ℕ × s .State)). FirstFrom g s x (cost C (suc n)) (after C n k)) (sym (f .is))
           (first-more r x C n ok bound (f .place) y (greedy s d L C n y) p rest)
-
-  -- From a start state, the greedy reading at the entry of its node is the best of all labels that arrive.
-  pub greedy-best :
-      (x : s .State) (v : ℕ) (c : Cost) → Valid x → StartsAt s x v → d v ≡ reached c
-      → Best (Arrives g s x) c (greedy s d L (c .charge) (c .steps) x)
-  greedy-best x v c ok start q =
-      start-best r x v start ok c q (greedy s d L (c .charge) (c .steps) x)
-      (greedy-first (c .charge) (c .steps) x ok (start-bound r x v start c q) (start-completes r x v start c q))

@@ -7,12 +7,8 @@ use Prim.Native.Nat.{ℕ, _<_, _≤_}
 use native.Mathlib.Decide.{decLt}
 use native.Mathlib.Omega.{arith}
 use lib.ListN.{length}
-use Rattle.semantics.specs.Path.{Cost, cost, _≼_, _⊑_, First, Best}
+use Rattle.semantics.specs.Order.{Cost, cost, _≼_, _⊑_, First, Best}
 use Rattle.semantics.specs.Paths.Cost.{cost-trans, cost-antisymm}
-
-pub labels-refl : (ls : List ℕ) → ls ⊑ ls
-labels-refl [] = tt
-labels-refl (l ∷ ls) = inr (refl, labels-refl ls)
 
 pub labels-trans : (ks ls ms : List ℕ) → ks ⊑ ls → ls ⊑ ms → ks ⊑ ms
 labels-trans [] ls ms h k = tt
@@ -22,17 +18,6 @@ labels-trans (a ∷ ks) (b ∷ ls) (c ∷ ms) (inl x) (inl y) = inl (omega arith
 labels-trans (a ∷ ks) (b ∷ ls) (c ∷ ms) (inl x) (inr y) = inl (omega arith)
 labels-trans (a ∷ ks) (b ∷ ls) (c ∷ ms) (inr x) (inl y) = inl (omega arith)
 labels-trans (a ∷ ks) (b ∷ ls) (c ∷ ms) (inr x) (inr y) = inr (omega arith, labels-trans ks ls ms (x .1) (y .1))
-
-pub labels-total : (ls ms : List ℕ) → (ls ⊑ ms) ⊎ (ms ⊑ ls)
-labels-total [] ms = inl tt
-labels-total (l ∷ ls) [] = inr tt
-labels-total (l ∷ ls) (m ∷ ms) = at (decLt l m) (decLt m l) (labels-total ls ms)
-  where
-    at : Dec (l < m) → Dec (m < l) → (ls ⊑ ms) ⊎ (ms ⊑ ls) → ((l ∷ ls) ⊑ (m ∷ ms)) ⊎ ((m ∷ ms) ⊑ (l ∷ ls))
-    at (yes h) k r = inl (inl h)
-    at (no h) (yes k) r = inr (inl k)
-    at (no h) (no k) (inl r) = inl (inr (omega arith, r))
-    at (no h) (no k) (inr r) = inr (inr (omega arith, r))
 
 pub labels-antisymm : (ls ms : List ℕ) → ls ⊑ ms → ms ⊑ ls → ls ≡ ms
 labels-antisymm [] [] h k = refl

@@ -7,7 +7,8 @@ use native.Mathlib.Nat.{le-trans, mul-le-mul-right}
 use native.Mathlib.Decide.{decLe}
 use native.Mathlib.Omega.{arith}
 use lib.ListN.{length}
-use Rattle.semantics.specs.Path.{Edge, Graph, Closed, WeightsWithin, IsPath, Cost, costOf, _≼_, HasCost, Least, Entry, unreached, reached, LeastCosts, Within}
+use Rattle.semantics.specs.Order.{Cost, _≼_}
+use Rattle.semantics.specs.Graph.Path.{Edge, Graph, Closed, WeightsWithin, IsPath, costOf, HasCost, Least, Entry, unreached, reached, LeastCosts, Within}
 use Rattle.semantics.specs.Paths.Cost.{cost-antisymm, cost-fewer, not-both}
 use Rattle.semantics.specs.Paths.Loops.{loop-removal, path-charge}
 

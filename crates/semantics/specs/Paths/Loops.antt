@@ -8,7 +8,7 @@ use native.Mathlib.Nat.{le-refl, zero-mul, suc-mul}
 use native.Mathlib.Decide.{decLe}
 use native.Mathlib.Omega.{arith}
 use lib.ListN.{length, take, drop, length-append, length-take, length-drop}
-use Rattle.semantics.specs.Path.{Edge, Graph, Closed, WeightsWithin, IsPath, chargeOf}
+use Rattle.semantics.specs.Graph.Path.{Edge, Graph, Closed, WeightsWithin, IsPath, chargeOf}
 use Rattle.semantics.specs.Paths.Pigeonhole.{Repeat, pigeonhole}
 
 -- A path from v of fewer edges than p that is charged no more.

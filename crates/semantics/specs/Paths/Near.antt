@@ -10,9 +10,10 @@ use native.Mathlib.Omega.{arith}
 use lib.Dec.{leb}
 use lib.ListN.{length, drop}
 use borrow.Author.Tests.{le-leb, lt-leb}
-use Rattle.semantics.specs.Path.{Edge, Graph, Target, Closed, WeightsWithin, IsPath, Cost, cost, costOf, _≼_, _≺_, HasCost, Least, Entry, unreached, reached, Within, along, table}
-use Rattle.semantics.specs.Distance.{distance, entryWords}
-use Rattle.semantics.specs.Near.{turned, near, nearWords}
+use Rattle.semantics.specs.Order.{Cost, cost, _≼_, _≺_}
+use Rattle.semantics.specs.Graph.Path.{Edge, Graph, Target, Closed, WeightsWithin, IsPath, costOf, HasCost, Least, Entry, unreached, reached, Within, along, table}
+use Rattle.semantics.specs.Graph.Distance.{distance, entryWords}
+use Rattle.semantics.specs.Graph.Near.{turned, near, nearWords}
 use Rattle.semantics.specs.Paths.Cost.{cost-same, cost-antisymm, cost-trans, cost-both, cost-total, less-trans}
 use Rattle.semantics.specs.Paths.Distance.{within-cost}
 use Rattle.semantics.specs.Paths.Least.{no-less-cost, least-charge, least-reached}

@@ -2,7 +2,7 @@
 -- up to the bound.
 -- Assumes nothing.
 use mathlib.Core.Path.{_≡_, refl, ap}
-use mathlib.Core.Bool.{Bool, true, false}
+use mathlib.Core.Bool.{Bool, true, false, true≢false}
 use mathlib.Core.Logic.{_≢_, _⊎_, inl, inr}
 use mathlib.Core.List.{List}
 use Prim.Native.Nat.{ℕ, suc, _+_, _*_, _/_, _≤_, _<_}
@@ -11,8 +11,9 @@ use native.Mathlib.Nat.{suc-mul, le-div-iff-mul-le, div-lt-iff-lt-mul}
 use native.Mathlib.Omega.{arith}
 use lib.ListN.{length, set}
 use lib.Seq.{getD-set-other}
-use Rattle.semantics.specs.Path.{Edge, Graph, Leaves, Target, cost, infinity, chargeAt, table}
-use Rattle.semantics.specs.Near.{turned}
+use Rattle.semantics.specs.Order.{cost}
+use Rattle.semantics.specs.Graph.Path.{Edge, Graph, Leaves, Target, infinity, chargeAt, table}
+use Rattle.semantics.specs.Graph.Near.{turned}
 use Rattle.semantics.specs.Paths.Words.{reached-words}
 use Rattle.semantics.specs.Paths.Seed.{Seeded, seeded-sound}
 use Rattle.semantics.specs.Paths.Turned.{turned-nodes, turned-target}
@@ -189,4 +190,4 @@ module _ {g : Graph} {s block low x : ℕ} {ws pend : List ℕ} (ok : Ahead g s 
           (v : ℕ) (e : Edge) → v < g .nodes → Leaves g v e → (t : Bool) → g .isTarget v ≡ t
           → RelaxedAt g s ws v e ⊎ ((boundOf pend < chargeAt ws v) ⊎ Target g v)
       at v e h l true q = inr (inr q)
-      at v e h l false q = by v e h (ahead-done v e h l (λ t. let z : _≡_ {A = ℕ} 0 1 = cc in absurd (omega arith)))
+      at v e h l false q = by v e h (ahead-done v e h l (λ t. absurd (true≢false cc)))

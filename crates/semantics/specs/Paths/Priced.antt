@@ -5,14 +5,15 @@ use mathlib.Core.Logic.{inl, inr}
 use mathlib.Core.Option.{some}
 use Prim.Native.Nat.{ℕ, suc, _+_, _<_}
 use native.Mathlib.Omega.{arith}
-use Rattle.semantics.specs.Path.{Graph, Cost, cost, costOf, _≼_, HasCost, Least, Entry, along}
+use Rattle.semantics.specs.Order.{Cost, cost, _≼_}
+use Rattle.semantics.specs.Graph.Path.{Graph, costOf, HasCost, Least, Entry, along}
 use Rattle.semantics.specs.Paths.Cost.{same-less}
 use Rattle.semantics.specs.Paths.Least.{no-less-cost}
 use Rattle.semantics.specs.Paths.Explored.{path-cost}
 use Rattle.semantics.specs.Paths.System.{System, Follows}
 use Rattle.semantics.specs.Paths.Route.{raised, Completes, LowerBound, Routing}
 use Rattle.semantics.specs.Paths.Start.{StartsAt}
-use Rattle.semantics.specs.Near.{turned}
+use Rattle.semantics.specs.Graph.Near.{turned}
 use Rattle.semantics.specs.Paths.Turned.{plus, plus-cancel-less, turned-start, turned-more, turned-then}
 
 -- Every corner of x has its price by a path of n steps from node v.

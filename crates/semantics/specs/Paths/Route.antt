@@ -10,7 +10,8 @@ use Prim.Native.Nat.{ℕ, suc, _+_, _≤_, _<_}
 use native.Mathlib.Decide.{decLe}
 use native.Mathlib.Omega.{arith}
 use lib.ListN.{length, length-map}
-use Rattle.semantics.specs.Path.{Edge, Graph, IsPath, labelsOf, Cost, cost, costOf, _≼_, HasCost, Entry, reached, LeastCosts, First}
+use Rattle.semantics.specs.Order.{Cost, cost, _≼_, First}
+use Rattle.semantics.specs.Graph.Path.{Edge, Graph, IsPath, labelsOf, costOf, HasCost, Entry, reached, LeastCosts}
 use Rattle.semantics.specs.Paths.Cost.{cost-trans, cost-antisymm, cost-charge}
 use Rattle.semantics.specs.Paths.Distance.{EntryCost, within-cost}
 use Rattle.semantics.specs.Paths.Least.{least-within}

@@ -5,7 +5,8 @@ use mathlib.Core.List.{List, []}
 use Prim.Native.Nat.{ℕ, _*_, _≤_, _<_}
 use native.Mathlib.Omega.{arith}
 use lib.ListN.{length, drop}
-use Rattle.semantics.specs.Path.{Graph, Target, Cost, cost, HasCost, reached, table}
+use Rattle.semantics.specs.Order.{Cost, cost}
+use Rattle.semantics.specs.Graph.Path.{Graph, Target, HasCost, reached, table}
 use Rattle.semantics.specs.Paths.Sound.{Sound}
 
 -- The words ws, in which no node was reached, became ws′, in which the targets below v have cost 0 and no other node is reached.

@@ -5,8 +5,9 @@ use mathlib.Core.Logic.{_≢_, _⊎_, inl, inr}
 use Prim.Native.Nat.{ℕ, suc, _+_, _*_, _≤_, _<_}
 use native.Mathlib.Decide.{ℕ-discrete, decLt}
 use native.Mathlib.Omega.{arith}
-use Rattle.semantics.specs.Path.{Edge, Graph, Leaves, Target, Cost, cost, _≼_, _≺_, HasCost, Entry, unreached, reached, Within, along}
-use Rattle.semantics.specs.Near.{turn, turned}
+use Rattle.semantics.specs.Order.{Cost, cost, _≼_, _≺_}
+use Rattle.semantics.specs.Graph.Path.{Edge, Graph, Leaves, Target, HasCost, Entry, unreached, reached, Within, along}
+use Rattle.semantics.specs.Graph.Near.{turn, turned}
 use Rattle.semantics.specs.Paths.Cost.{cost-trans, cost-weaken, cost-both}
 use Rattle.semantics.specs.Paths.Sound.{Lower, relaxed-kept, relaxed-loop}
 use Rattle.semantics.specs.Paths.Turned.{turned-nodes, turned-target, turned-more}

@@ -7,7 +7,8 @@ use Prim.Native.Nat.{ℕ, suc, _+_, _*_, _≤_, _<_}
 use native.Mathlib.Decide.{ℕ-discrete}
 use native.Mathlib.Omega.{arith}
 use lib.ListN.{length}
-use Rattle.semantics.specs.Path.{Edge, Graph, Target, Closed, WeightsWithin, Cost, cost, _≼_, _≺_, HasCost, Entry, unreached, reached, Attained, Within, along, Relaxed, infinity, chargeAt, stepsAt, table}
+use Rattle.semantics.specs.Order.{Cost, cost, _≼_, _≺_}
+use Rattle.semantics.specs.Graph.Path.{Edge, Graph, Target, Closed, WeightsWithin, HasCost, Entry, unreached, reached, Attained, Within, along, Relaxed, infinity, chargeAt, stepsAt, table}
 use Rattle.semantics.specs.Paths.Cost.{cost-trans, cost-weaken, cost-both}
 use Rattle.semantics.specs.Paths.Loops.{path-charge}
 use Rattle.semantics.specs.Paths.Words.{HoldsCost, table-reached, table-stored, table-other, reached-words, stored, stored-length, stored-charge, stored-steps, other-charge, other-steps}

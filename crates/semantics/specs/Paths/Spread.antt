@@ -6,9 +6,10 @@ use mathlib.Core.List.{List}
 use Prim.Native.Nat.{ℕ, suc, _*_, _≤_, _<_}
 use native.Mathlib.Decide.{decLe}
 use native.Mathlib.Omega.{arith}
-use Rattle.semantics.specs.Path.{Edge, Graph, Leaves, Target, Closed, WeightsWithin, Cost, cost, Entry, unreached, reached, Within, Relaxed, infinity, chargeAt, table}
-use Rattle.semantics.specs.Distance.{distance}
-use Rattle.semantics.specs.Near.{turn, turned, near}
+use Rattle.semantics.specs.Order.{Cost, cost}
+use Rattle.semantics.specs.Graph.Path.{Edge, Graph, Leaves, Target, Closed, WeightsWithin, Entry, unreached, reached, Within, Relaxed, infinity, chargeAt, table}
+use Rattle.semantics.specs.Graph.Distance.{distance}
+use Rattle.semantics.specs.Graph.Near.{turn, turned, near}
 use Rattle.semantics.specs.Paths.Words.{reached-words, table-reached}
 use Rattle.semantics.specs.Paths.Sound.{Sound}
 use Rattle.semantics.specs.Paths.Turned.{turned-nodes}

@@ -5,7 +5,8 @@ use mathlib.Core.List.{List}
 use mathlib.Core.Logic.{inr}
 use Prim.Native.Nat.{ℕ, _<_}
 use native.Mathlib.Omega.{arith}
-use Rattle.semantics.specs.Path.{Graph, Cost, Entry, unreached, reached, Best}
+use Rattle.semantics.specs.Order.{Cost, Best}
+use Rattle.semantics.specs.Graph.Path.{Graph, Entry, unreached, reached}
 use Rattle.semantics.specs.Paths.System.{System, Arrives, corner-path}
 use Rattle.semantics.specs.Paths.Route.{Completes, LowerBound, FirstFrom, Routing, bound-least}
 

@@ -3,15 +3,17 @@
 -- least price. So a list of labels stands for several parallel paths, and the price of a corner is the least of theirs.
 -- Assumes nothing.
 use mathlib.Core.Path.{_≡_, refl, sym, _∙_, ap}
+use mathlib.Core.Bool.{true≢false}
 use mathlib.Core.List.{List, [], _∷_}
 use mathlib.Core.Option.{Option, none, some}
 use Prim.Native.Nat.{ℕ, _+_, _≤_, _<_}
 use native.Mathlib.Omega.{arith}
 use lib.ListN.{length, length-map}
-use Rattle.semantics.specs.Path.{Edge, Graph, Leaves, Target, Closed, IsPath, labelsOf, chargeOf, Cost, cost, Best}
+use Rattle.semantics.specs.Order.{cost}
+use Rattle.semantics.specs.Graph.Path.{Edge, Graph, Leaves, Target, Closed, IsPath, labelsOf, chargeOf}
 use Rattle.semantics.specs.Paths.Cost.{cost-both}
 use Rattle.semantics.specs.Paths.Loops.{short-path}
-use Rattle.semantics.specs.Paths.Labels.{Shortened, Few, best-short}
+use Rattle.semantics.specs.Paths.Labels.{Shortened}
 
 -- A system: its states, the next state by a label if the label is allowed, and for each state the number of its corners, and the node and
 -- the price of each corner.
@@ -105,7 +107,7 @@ module _ (g : Graph) (s : System) where
       go :
           (o : Option (s .State)) → s .step l x ≡ o → (elim o [ none ↦ none | some y ↦ follow s ls y ]) ≡ some (a .last)
           → (y : s .State) × (s .step l x ≡ some y) × Arrives g s y ls c
-      go none e f = let z : _≡_ {A = ℕ} 0 1 = cc in absurd (omega arith)
+      go none e f = absurd (true≢false cc)
       go (some y) e f = (
         y,
         e,
@@ -180,9 +182,3 @@ module _ (g : Graph) (s : System) (Valid : s .State → Type 0) (laws : Follows 
         few = omega arith;
         within = cost-both (cost (m .price) (length (labelsOf (r .path)))) (cost c (length ls)) (omega arith) (omega arith);
       }
-
-  -- The best of the labels that arrive and are fewer than E is the best of all that arrive, whatever their number.
-  pub best-few :
-      Closed g → (x : s .State) → Valid x → (c : Cost) (ls : List ℕ) → Best (Few (g .nodes) (Arrives g s x)) c ls
-      → Best (Arrives g s x) c ls
-  best-few closed x ok c ls b = best-short (Arrives g s x) (g .nodes) (arrives-short closed x ok) c ls b

@@ -9,10 +9,11 @@ use Prim.Native.Nat.{ℕ, _+_, _<_}
 use native.Mathlib.Omega.{arith}
 use lib.Dec.{eqb}
 use borrow.Author.Tests.{eq-eqb, eqb-true}
-use Rattle.semantics.specs.Corner.{countFrom}
+use Rattle.semantics.specs.Answer.{countFrom}
 use Rattle.semantics.specs.Corners.Lists.{mem-below, below-bound, mem-flatMap, mem-of-flatMap}
-use Rattle.semantics.specs.Path.{Edge, Graph, Leaves, Target, Closed, WeightsWithin, IsPath, Cost, cost, costOf, _≼_, HasCost, along}
-use Rattle.semantics.specs.Near.{turn, turnedTo, turned}
+use Rattle.semantics.specs.Order.{Cost, cost, _≼_}
+use Rattle.semantics.specs.Graph.Path.{Edge, Graph, Leaves, Target, Closed, WeightsWithin, IsPath, costOf, HasCost, along}
+use Rattle.semantics.specs.Graph.Near.{turn, turnedTo, turned}
 use Rattle.semantics.specs.Paths.Cost.{cost-same}
 
 -- One cost and then another.

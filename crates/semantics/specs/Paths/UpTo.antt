@@ -1,27 +1,18 @@
 -- `distance` is the least cost everywhere.
 -- Assumes nothing.
-use mathlib.Core.Path.{_≡_, refl, sym, ap}
-use mathlib.Core.Bool.{Bool, true, false, cond}
+use mathlib.Core.Path.{_≡_, refl, ap}
+use mathlib.Core.Bool.{Bool, true, false, cond, true≢false}
 use mathlib.Core.Logic.{_⊎_, inl, inr, ⊎-elim}
 use mathlib.Core.List.{List, [], _∷_, List·Memᴰ, List·Memᴰ·cases-cons, List·Memᴰ·not-nil}
 use Prim.Native.Nat.{ℕ, zero, suc, pred, _+_, _≤_, _<_}
 use native.Mathlib.Omega.{arith}
-use borrow.Author.Tests.{lt-ltb, le-ltb, eq-eqb, ne-eqb}
 use lib.ListN.{length}
-use Rattle.semantics.specs.Path.{Edge, Graph, Closed, Leaves, Target, IsPath, Cost, cost, costOf, _≼_, _≺_, HasCost, Entry, unreached, reached, LeastCosts, Within, along}
-use Rattle.semantics.specs.Distance.{isLess, lesser, offered, relaxed, targetEntry, upTo, distance}
-use Rattle.semantics.specs.Paths.Cost.{cost-trans, cost-total, cost-weaken, cost-both, cost-along}
+use Rattle.semantics.specs.Order.{Cost, cost}
+use Rattle.semantics.specs.Graph.Path.{Edge, Graph, Closed, Leaves, Target, IsPath, costOf, HasCost, Entry, unreached, reached, LeastCosts, Within, along}
+use Rattle.semantics.specs.Graph.Distance.{lesser, offered, relaxed, targetEntry, upTo, distance}
+use Rattle.semantics.specs.Paths.Cost.{cost-trans, cost-total, cost-weaken, less-true, less-false, cost-both, cost-along}
 use Rattle.semantics.specs.Paths.Loops.{short-path}
 use Rattle.semantics.specs.Paths.Distance.{within-trans}
-
--- What the test says.
-less-true : (b a : Cost) → b ≺ a → isLess b a ≡ true
-less-true b a (inl h) = rw (lt-ltb (b .charge) (a .charge) h)
-less-true b a (inr h) = rw (le-ltb (b .charge) (a .charge) (omega (arith, h .0)), eq-eqb (b .charge) (a .charge) (h .0), lt-ltb (b .steps) (a .steps) (h .1))
-
-less-false : (b a : Cost) → a ≼ b → isLess b a ≡ false
-less-false b a (inl h) = rw (le-ltb (b .charge) (a .charge) (omega arith), ne-eqb (b .charge) (a .charge) (λ e. omega arith))
-less-false b a (inr h) = rw (le-ltb (b .charge) (a .charge) (omega (arith, h .0)), eq-eqb (b .charge) (a .charge) (sym (h .0)), le-ltb (b .steps) (a .steps) (h .1))
 
 -- The lesser of two entries is within each of them, and is one of them.
 lesser-left : (x y : Entry) (c : Cost) → Within x c → Within (lesser x y) c
@@ -78,7 +69,7 @@ module _ (g : Graph) where
   IsCost v x = (c : Cost) → x ≡ reached c → HasCost g v c
 
   no-cost : (v : ℕ) → IsCost v unreached
-  no-cost v c e = let z : _≡_ {A = ℕ} 0 1 = cc in absurd (omega arith)
+  no-cost v c e = absurd (true≢false cc)
 
   target-at : (v : ℕ) (t : Bool) → g .isTarget v ≡ t → IsCost v (cond t (reached (cost 0 0)) unreached)
   target-at v true h c e =

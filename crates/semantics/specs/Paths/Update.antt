@@ -1,14 +1,15 @@
 -- What the relaxing of edges does to the words of the search, be it of one edge or of those of many nodes.
 -- Assumes nothing.
 use mathlib.Core.Path.{_≡_, refl, sym, _∙_}
-use mathlib.Core.Bool.{Bool, true, false, _||_}
+use mathlib.Core.Bool.{Bool, true, false, _||_, true≢false}
 use mathlib.Core.Logic.{_≢_, _⊎_, inl, inr}
 use mathlib.Core.List.{List, _∷_}
 use Prim.Native.Nat.{ℕ, suc, _+_, _*_, _≤_, _<_}
 use native.Mathlib.Decide.{ℕ-discrete}
 use native.Mathlib.Omega.{arith}
 use lib.ListN.{length, drop}
-use Rattle.semantics.specs.Path.{Edge, Graph, Leaves, Cost, _≺_, HasCost, Relaxed, infinity, chargeAt, stepsAt, table}
+use Rattle.semantics.specs.Order.{Cost, _≺_}
+use Rattle.semantics.specs.Graph.Path.{Edge, Graph, Leaves, HasCost, Relaxed, infinity, chargeAt, stepsAt, table}
 use Rattle.semantics.specs.Paths.Words.{table-reached, table-other, stored, stored-length, stored-rest, stored-charge, other-charge, other-steps}
 use Rattle.semantics.specs.Paths.Sound.{Sound, Lower, costAt, measure, stored-lower, stored-measure, sound-stored}
 
@@ -42,7 +43,7 @@ update-none lo hi ok = record {
   only = λ v o. refl;
   blank = λ v b. b;
   same = λ _. refl;
-  falls = λ e. let z : _≡_ {A = ℕ} 0 1 = cc in absurd (omega arith);
+  falls = λ e. absurd (true≢false cc);
 }
 
 -- The cost c of edge e and then the entry of its end is stored for node v: fewer than E steps, and less than what stood there.
@@ -58,7 +59,7 @@ update-stored {g} {ws} v e c charged counted small ok h to l end known few less 
   lower = stored-lower g ws v c ok h known less;
   only = λ u o. table-other ws v c u (other u o);
   blank = λ u b. blank u b (ℕ-discrete u v);
-  same = λ q. let z : _≡_ {A = ℕ} 0 1 = cc in absurd (omega arith);
+  same = λ q. absurd (true≢false cc);
   falls = λ _. stored-measure g ws v c ok h known less (omega arith);
 }
   where
@@ -110,7 +111,7 @@ update-then {g} {lo} {hi} {ws} {ws′} {ws″} a b {k} flag p q = record {
 }
   where
     same : (a b : Bool) → Update g lo hi ws ws′ a → Update g lo hi ws′ ws″ b → (a || b) ≡ false → ws″ ≡ ws
-    same true b p q e = let z : _≡_ {A = ℕ} 0 1 = cc in absurd (omega arith)
+    same true b p q e = absurd (true≢false cc)
     same false b p q e = q .same e ∙ p .same refl
 
     falls :

@@ -1,7 +1,7 @@
 -- A table in words: what its words say of an entry, and what a store of an entry does to it.
 -- Assumes nothing.
 use mathlib.Core.Path.{_≡_, refl, _∙_}
-use mathlib.Core.Bool.{Bool, true, false, cond}
+use mathlib.Core.Bool.{Bool, true, false, cond, true≢false}
 use mathlib.Core.Logic.{_≢_}
 use mathlib.Core.List.{List}
 use Prim.Native.Nat.{ℕ, _+_, _*_, _<_}
@@ -10,7 +10,8 @@ use lib.Dec.{eqb}
 use lib.ListN.{length, set, drop, length-set}
 use lib.Seq.{getD-set-same, getD-set-other, drop-set-lt}
 use borrow.Author.Tests.{eq-eqb, ne-eqb, eqb-true, eqb-false}
-use Rattle.semantics.specs.Path.{Cost, cost, unreached, reached, infinity, chargeAt, stepsAt, table}
+use Rattle.semantics.specs.Order.{Cost, cost}
+use Rattle.semantics.specs.Graph.Path.{unreached, reached, infinity, chargeAt, stepsAt, table}
 
 -- The words of node v hold the cost c.
 pub record HoldsCost (ws : List ℕ) (v : ℕ) (c : Cost) : Type 0 where
@@ -37,7 +38,7 @@ module _ (ws : List ℕ) (v : ℕ) where
       go :
           (b : Bool) → eqb (chargeAt ws v) infinity ≡ b
           → cond b unreached (reached (cost (chargeAt ws v) (stepsAt ws v))) ≡ reached c → HoldsCost ws v c
-      go true e r = let z : _≡_ {A = ℕ} 0 1 = cc in absurd (omega arith)
+      go true e r = absurd (true≢false cc)
       go false e r = record { known = eqb-false (chargeAt ws v) infinity e; charge = cc; steps = cc }
 
   pub unreached-words : table ws v ≡ unreached → chargeAt ws v ≡ infinity
@@ -48,7 +49,7 @@ module _ (ws : List ℕ) (v : ℕ) where
           (b : Bool) → eqb (chargeAt ws v) infinity ≡ b
           → cond b unreached (reached (cost (chargeAt ws v) (stepsAt ws v))) ≡ unreached → chargeAt ws v ≡ infinity
       go true e r = eqb-true (chargeAt ws v) infinity e
-      go false e r = let z : _≡_ {A = ℕ} 0 1 = cc in absurd (omega arith)
+      go false e r = absurd (true≢false cc)
 
 -- The words with the cost c stored for node v.
 abbrev pub stored : List ℕ → ℕ → Cost → List ℕ

@@ -1,7 +1,7 @@
 -- Lengths after each operation: the timers stay as many, and how many prices there are.
 -- Assumes nothing.
 use mathlib.Core.Path.{_≡_, refl, ap, _∙_, sym, subst}
-use mathlib.Core.Bool.{true, false}
+use mathlib.Core.Bool.{true}
 use mathlib.Core.Logic.{⊎-elim}
 use mathlib.Core.List.{List, [], _∷_, map}
 use Prim.Native.Nat.{ℕ, zero, suc, pred, _+_, _-_, _<_}
@@ -99,9 +99,6 @@ module _ (r : PricedRegion) where
   pub charge-prices : (price : ℕ) → length (charge price r .prices) ≡ length (r .prices)
   unfolding charge
   charge-prices price = length-map (r .prices) (λ c. c + price)
-
-  pub reset-joined-prices : (x : ℕ) → alone x (r .group) ≡ false → length (reset x r .prices) ≡ length (r .prices)
-  reset-joined-prices x a = ap (λ (s : PricedRegion). length (s .prices)) (reset-joined x r a)
 
 pub resetAll-timers : (xs : List ℕ) (r : PricedRegion) → SameTimers r (resetAll xs r)
 unfolding resetAll

@@ -2,7 +2,7 @@
 use Prim.Native.Nat.{ℕ, _*_, _≤_}
 use mathlib.Core.Path.{_≡_, ap₂, _∙_}
 use borrow.Author.Tests.{le-leb, lt-leb}
-use Rattle.semantics.specs.Node.{nodeCount}
+use Rattle.semantics.specs.NodeCount.{nodeCount}
 use Rattle.reader.specs.Meaning.{automaton}
 use Rattle.reader.specs.Held.{fields}
 use Rattle.reader.specs.Theorems.Access.{counts}

@@ -9,7 +9,7 @@ use denote.Ref.{now}
 use lib.ListN.{getD}
 use borrow.Author.Needs.{needs}
 use borrow.Author.Tests.{lt-ltb, le-ltb}
-use Rattle.semantics.specs.Path.{Graph}
+use Rattle.semantics.specs.Graph.Path.{Graph}
 use Rattle.search.specs.Edges.{OfferReady, DelayAt, edgeTo, delayWeight}
 use Rattle.search.proofs.Relaxing.{InRange}
 use Rattle.search.proofs.Offers.{offer-range}

@@ -6,7 +6,7 @@ use mathlib.Core.Logic.{inl, inr, ⊎-elim}
 use Prim.Native.Nat.{ℕ, _+_, _-_, _≤_}
 use native.Mathlib.Omega.{arith}
 use denote.Ref.{now}
-use Rattle.semantics.specs.Path.{Graph}
+use Rattle.semantics.specs.Graph.Path.{Graph}
 use Rattle.search.specs.Edges.{OfferReady, MoveAt, edgeTo}
 use Rattle.search.proofs.Relaxing.{InRange}
 use Rattle.search.proofs.Offers.{offer-range}

@@ -5,7 +5,7 @@ use mathlib.Core.Logic.{⊎-elim, inl, inr}
 use Prim.Native.Nat.{ℕ, _+_, _*_, _-_, _/_, _≤_, _<_}
 use native.Mathlib.Decide.{ℕ-discrete}
 use native.Mathlib.Omega.{arith}
-use Rattle.semantics.specs.Path.{infinity, chargeAt}
+use Rattle.semantics.specs.Graph.Path.{infinity, chargeAt}
 use Rattle.search.proofs.Nearest.{goal-last, Least, least-none, least-cheaper, least-fewer, least-kept, is-best, is-best-none}
 use Rattle.search.proofs.near.best.Statement.{statement}
 use Rattle.search.proofs.near.best.Tie as tie

@@ -8,7 +8,7 @@ use native.Mathlib.Omega.{arith}
 use denote.Ref.{now}
 use lib.ListN.{length, getD, length-map, length-set}
 use lib.Seq.{length-take-le}
-use Rattle.semantics.specs.Path.{infinity}
+use Rattle.semantics.specs.Graph.Path.{infinity}
 use Rattle.semantics.specs.Paths.Sound.{measure}
 use Rattle.reader.specs.declared.Table.{Table}
 use Rattle.regions.specs.Laws.Nodes.{corners-few}

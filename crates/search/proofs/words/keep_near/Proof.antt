@@ -8,7 +8,7 @@ use native.Mathlib.Omega.{arith}
 use lib.ListN.{length, length-set}
 use denote.Ref.{now}
 use borrow.Author.Needs.{needs}
-use Rattle.semantics.specs.Path.{infinity}
+use Rattle.semantics.specs.Graph.Path.{infinity}
 use Rattle.search.proofs.Nearest.{Keeping, keeping-none, keeping-drop, keeping-same, keeping-all}
 use Rattle.search.proofs.words.keep_near.Statement.{statement}
 use Rattle.search.proofs.words.keep_near.Tie as tie

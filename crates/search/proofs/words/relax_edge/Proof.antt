@@ -6,7 +6,7 @@ use mathlib.Core.List.{List}
 use native.Mathlib.Omega.{arith}
 use denote.Ref.{now}
 use lib.ListN.{length-set}
-use Rattle.semantics.specs.Path.{infinity, chargeAt, stepsAt}
+use Rattle.semantics.specs.Graph.Path.{infinity, chargeAt, stepsAt}
 use Rattle.search.specs.Edges.{mostWeight}
 use Rattle.search.proofs.Relaxing.{InRange, in-range, end-bound, edge-passed, edge-stored}
 use borrow.Author.Needs.{needs}

@@ -1,5 +1,4 @@
--- The nodes of the search and their numbers: document 01, "E = m × the product of all (ceiling + 1) × that number", the number of corners of a
--- cell.
+-- The nodes of the search and their numbers, which are those below E.
 -- Assumes nothing.
 use mathlib.Core.Path.{_≡_}
 use mathlib.Core.List.{List, [], _∷_, List·Memᴰ}
@@ -7,7 +6,8 @@ use Prim.Native.Nat.{ℕ, _+_, _*_, _/_, _%_, _<_}
 use lib.ListN.{length, getD}
 use Rattle.semantics.specs.Automaton.{Automaton, timers}
 use Rattle.semantics.specs.Region.{PricedRegion}
-use Rattle.semantics.specs.Corner.{Corner, cornerOf, corners, cornerCount, cornerNumber, cornerAt}
+use Rattle.semantics.specs.NodeCount.{factor, cellCount, cornerCount}
+use Rattle.semantics.specs.Corners.Corner.{Corner, cornerOf, corners, cornerNumber, cornerAt}
 
 -- A node: a mode, the timers' whole parts, which are the cell, and a corner of the cell.
 pub record Node : Type 0 where
@@ -18,19 +18,6 @@ pub record Node : Type 0 where
 -- Corner j of a region in a mode.
 abbrev pub nodeOf : ℕ → PricedRegion → ℕ → Node
 nodeOf mode r j = record { mode = mode; whole = r .whole; corner = cornerOf r j }
-
--- "(ceiling + 1)": the whole parts of a timer are the numbers below it.
-abbrev pub factor : ℕ → ℕ
-factor ceiling = ceiling + 1
-
--- "the product of all (ceiling + 1)": how many cells there are.
-abbrev pub cellCount : List ℕ → ℕ
-cellCount [] = 1
-cellCount (ceiling ∷ ceilings) = cellCount ceilings * factor ceiling
-
--- Document 01's E: how many nodes there are.
-unfoldable pub nodeCount : Automaton → ℕ
-nodeCount a = length (a .modes) * cellCount (a .ceilings) * cornerCount (timers a) 1
 
 -- The cells: as many whole parts as ceilings, none above its ceiling.
 pub record IsCell (ceilings whole : List ℕ) : Type 0 where

@@ -4,9 +4,10 @@ use mathlib.Core.Bool.{cond, _&&_}
 use mathlib.Core.List.{List, [], _∷_}
 use Prim.Native.Nat.{ℕ}
 use lib.Dec.{leb, eqb}
-use Rattle.semantics.specs.Corner.{countFrom, flatMap}
-use Rattle.semantics.specs.Path.{Edge, Graph, Entry, unreached, reached}
-use Rattle.semantics.specs.Distance.{distance, entryWords}
+use Rattle.semantics.specs.Answer.{countFrom}
+use Rattle.semantics.specs.Corners.Corner.{flatMap}
+use Rattle.semantics.specs.Graph.Path.{Edge, Graph, Entry, unreached, reached}
+use Rattle.semantics.specs.Graph.Distance.{distance, entryWords}
 
 -- The edge e of node v, turned round: it leads back to v.
 abbrev pub turn : ℕ → Edge → Edge

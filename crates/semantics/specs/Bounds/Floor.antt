@@ -1,4 +1,4 @@
--- What the chains into a mode say of its runs (Bounds.Lower and Bounds.Exists): no price below C, and no chain at all.
+-- What the chains into a mode say of its runs (Bounds.Lower): no price below C.
 -- Assumes nothing.
 use mathlib.Core.Path.{_≡_}
 use mathlib.Core.List.{List}
@@ -13,7 +13,3 @@ abbrev pub Floor : Automaton → ℕ → ℕ → Type 0
 Floor a l C =
     (bytes : List ℕ) (p : Place) → chain a bytes ≡ some p → p .mode ≡ l → (j : ℕ) → j < length (p .region .prices)
     → C ≤ getD (p .region .prices) j 0
-
--- No chain comes into mode l.
-abbrev pub NoChain : Automaton → ℕ → Type 0
-NoChain a l = (bytes : List ℕ) (p : Place) → chain a bytes ≡ some p → p .mode ≡ l → ⊥

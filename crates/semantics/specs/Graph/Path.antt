@@ -3,11 +3,11 @@
 -- Assumes nothing.
 use mathlib.Core.Path.{_≡_}
 use mathlib.Core.Bool.{Bool, true, cond}
-use mathlib.Core.Logic.{_⊎_}
 use mathlib.Core.List.{List, [], _∷_, map, List·Memᴰ}
 use Prim.Native.Nat.{ℕ, suc, _+_, _*_, _≤_, _<_}
 use lib.Dec.{eqb}
 use lib.ListN.{length, getD}
+use Rattle.semantics.specs.Order.{Cost, cost, _≼_}
 
 -- An edge: its label, its weight, and the node that it leads to.
 pub record Edge : Type 0 where
@@ -51,27 +51,9 @@ abbrev pub chargeOf : List Edge → ℕ
 chargeOf [] = 0
 chargeOf (e ∷ p) = e .weight + chargeOf p
 
--- A cost: a charge and a number of steps.
-pub record Cost : Type 0 where
-  pub charge : ℕ
-  pub steps : ℕ
-
-abbrev pub cost : ℕ → ℕ → Cost
-cost charge steps = record { charge = charge; steps = steps }
-
 -- The cost of a path: its charge, and its number of edges as its steps.
 abbrev pub costOf : List Edge → Cost
 costOf p = cost (chargeOf p) (length p)
-
-infix 50 _≼_
-infix 50 _≺_
--- Costs are compared by charge, then by steps. a is at most b:
-abbrev pub _≼_ : Cost → Cost → Type 0
-_≼_ a b = (a .charge < b .charge) ⊎ ((a .charge ≡ b .charge) × (a .steps ≤ b .steps))
-
--- a is less than b:
-abbrev pub _≺_ : Cost → Cost → Type 0
-_≺_ a b = (a .charge < b .charge) ⊎ ((a .charge ≡ b .charge) × (a .steps < b .steps))
 
 -- Some path from v costs exactly c.
 pub record HasCost (g : Graph) (v : ℕ) (c : Cost) : Type 0 where
@@ -117,33 +99,6 @@ Relaxed g d v e = (c : Cost) → d (e .to) ≡ reached c → suc (c .steps) < g 
 pub record Settled (g : Graph) (d : ℕ → Entry) : Type 0 where
   pub targets : (v : ℕ) → v < g .nodes → Target g v → d v ≡ reached (cost 0 0)
   pub relaxed : (v : ℕ) (e : Edge) → v < g .nodes → Leaves g v e → Relaxed g d v e
-
-infix 50 _⊑_
--- Label order: ls comes no later than ms. Lists of labels go by the first label in which they differ, and a list before those that go on
--- from it.
-abbrev pub _⊑_ : List ℕ → List ℕ → Type 0
-_⊑_ [] ms = Unit {0}
-_⊑_ (l ∷ ls) [] = ⊥
-_⊑_ (l ∷ ls) (m ∷ ms) = (l < m) ⊎ ((l ≡ m) × (ls ⊑ ms))
-
--- The first of the good lists, in label order.
-pub record First (Good : List ℕ → Type 0) (labels : List ℕ) : Type 0 where
-  pub good : Good labels
-  pub first : (ls : List ℕ) → Good ls → labels ⊑ ls
-
--- "Among chains that end in the goal with a corner at the least charge, the route is one with fewest steps; among those the first in byte
--- order." Comes ls charge says that the labels ls lead into the targets at this charge. Then c is the least cost of all that do, and the
--- labels are the first of those that do at this cost.
-pub record Best (Comes : List ℕ → ℕ → Type 0) (c : Cost) (labels : List ℕ) : Type 0 where
-  pub least : (ls : List ℕ) (charge : ℕ) → Comes ls charge → c ≼ cost charge (length ls)
-  pub first : First (λ ls. Comes ls (c .charge) × (length ls ≡ c .steps)) labels
-
--- A path from v has the labels ls and this charge.
-pub record HasLabels (g : Graph) (v : ℕ) (ls : List ℕ) (charge : ℕ) : Type 0 where
-  pub path : List Edge
-  pub is-path : IsPath g v path
-  pub labelled : labelsOf path ≡ ls
-  pub charged : chargeOf path ≡ charge
 
 -- "The search takes 2E words of 32 bits": the charge of node v stands at 2v, and its steps at 2v + 1. An unreached node has 0xFFFF_FFFF in
 -- both, and no other charge is so high.

@@ -1,14 +1,10 @@
 -- The least cost from a node into the targets, as a function.
 -- Assumes nothing.
-use mathlib.Core.Bool.{Bool, true, false, cond}
+use mathlib.Core.Bool.{cond}
 use mathlib.Core.List.{List, [], _∷_}
 use Prim.Native.Nat.{ℕ, zero, suc, pred}
-use lib.Dec.{ltb, eqb}
-use Rattle.semantics.specs.Path.{Edge, Graph, Cost, cost, Entry, unreached, reached, along, infinity}
-
--- Cost b is less than cost a: by charge, then by steps.
-abbrev pub isLess : Cost → Cost → Bool
-isLess b a = cond (ltb (b .charge) (a .charge)) true (cond (eqb (b .charge) (a .charge)) (ltb (b .steps) (a .steps)) false)
+use Rattle.semantics.specs.Order.{cost, isLess}
+use Rattle.semantics.specs.Graph.Path.{Edge, Graph, Entry, unreached, reached, along, infinity}
 
 -- The lesser of two entries; the first of two that are the same.
 abbrev pub lesser : Entry → Entry → Entry

@@ -1,18 +1,17 @@
--- Corner paths: how prices pass from corner to corner along a chain. Document 01, "Priced regions", lets delay, linger, reset and charge
+-- Corner edges: how prices pass from corner to corner along a chain. Document 01, "Priced regions", lets delay, linger, reset and charge
 -- drop a price, keep it, add to it, or take the smaller of two. So a step has edges from the corners of a region to the corners of the next,
--- each with a weight, and a price after the step is the least sum of a price before it and the weight of an edge (Bounds.Flow, Bounds.Paths).
+-- each with a weight, and a price after the step is the least sum of a price before it and the weight of an edge (Bounds.Flow).
 -- Edges go by the mode, the whole parts, the groups and the number of the prices, and not by the prices (Bounds.Alike).
 -- Assumes nothing.
 use mathlib.Core.Path.{_≡_}
 use mathlib.Core.Bool.{cond, _&&_}
-use mathlib.Core.List.{List, [], _∷_, List·Memᴰ}
-use mathlib.Core.Option.{some}
-use Prim.Native.Nat.{ℕ, zero, suc, pred, _+_, _-_}
+use mathlib.Core.List.{List, [], _∷_}
+use Prim.Native.Nat.{ℕ, zero, suc, pred, _-_}
 use lib.Dec.{ltb, eqb}
 use lib.ListN.{length, getD}
 use Rattle.semantics.specs.Automaton.{Move, Automaton, modeAt, moveAt}
 use Rattle.semantics.specs.Region.{PricedRegion, top, noZero, alone, reset}
-use Rattle.semantics.specs.Chain.{Place, step}
+use Rattle.semantics.specs.Chain.{Place}
 
 -- An edge from a corner: the corner of the next region to which it leads, and its weight.
 pub record Edge : Type 0 where
@@ -56,13 +55,6 @@ edges a byte p j =
     cond (ltb byte 64) (moveEdges (moveAt a byte) (p .region) j)
     (cond (eqb byte 64) (delayEdges (modeAt a (p .mode) .rate) (p .region) j)
     (cond (eqb byte 65) (lingerEdges (modeAt a (p .mode) .rate) (p .region) j) []))
-
--- A corner path along allowed steps, from a corner of one place to a corner of another, with the sum of its weights.
-pub data CornerPath (a : Automaton) : List ℕ → Place → ℕ → Place → ℕ → ℕ → Type 0 where
-  stop : {p : Place} {j : ℕ} → CornerPath a [] p j p j 0
-  along :
-      {byte : ℕ} {bytes : List ℕ} {p p′ p″ : Place} {j j″ w : ℕ} → step a byte p ≡ some p′ → (e : Edge) → List·Memᴰ e (edges a byte p j)
-      → CornerPath a bytes p′ (e .corner) p″ j″ w → CornerPath a (byte ∷ bytes) p j p″ j″ (e .weight + w)
 
 -- Two regions that differ at most in what their prices are.
 pub record SameShape (r s : PricedRegion) : Type 0 where

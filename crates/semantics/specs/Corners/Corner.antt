@@ -1,12 +1,13 @@
--- The corners of a cell for any number of timers, and their numbers: document 01, "The corners of a cell number 3, 13 or 75 for one, two or
--- three timers." The timers' whole parts fix a cell; its regions differ in the groups of the timers, and each has k + 1 corners.
+-- The corners of a cell for any number of timers, and their numbers. The timers' whole parts fix a cell; its regions differ in the groups of
+-- the timers, and each has k + 1 corners.
 -- Assumes nothing.
 use mathlib.Core.Bool.{Bool, true, false, cond, _&&_}
 use mathlib.Core.List.{List, [], _∷_, _++_, map}
-use Prim.Native.Nat.{ℕ, zero, suc, _+_, _*_}
+use Prim.Native.Nat.{ℕ, zero, suc}
 use lib.Dec.{eqb, leb}
 use lib.ListN.{getD}
 use Rattle.semantics.specs.Region.{PricedRegion}
+use Rattle.semantics.specs.Answer.{countFrom}
 
 -- A corner: the group of each timer, which is the region in its cell, and the index of the corner's price.
 pub record Corner : Type 0 where
@@ -16,18 +17,6 @@ pub record Corner : Type 0 where
 -- Corner j of a region, whose price is cj.
 abbrev pub cornerOf : PricedRegion → ℕ → Corner
 cornerOf r j = record { group = r .group; index = j }
-
--- In how many ways n timers come, one after another, into a weak order of b blocks: each joins one of the b blocks or stands alone in one of
--- the b + 1 gaps. A corner is a weak order of n + 1 marks, the timers by their fractions and one for the index: among b groups of timers the
--- index has b places where r0 is the lowest of them, and b + 1 where r0 is empty. So a cell of n timers has cornerCount n 1 corners.
-abbrev pub cornerCount : ℕ → ℕ → ℕ
-cornerCount zero b = 1
-cornerCount (suc n) b = b * cornerCount n b + suc b * cornerCount n (suc b)
-
--- i, i + 1, .., so many numbers.
-abbrev pub countFrom : ℕ → ℕ → List ℕ
-countFrom i zero = []
-countFrom i (suc n) = i ∷ countFrom (suc i) n
 
 abbrev pub flatMap : {A B : Type 0} → (A → List B) → List A → List B
 flatMap f [] = []

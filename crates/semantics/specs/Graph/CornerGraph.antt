@@ -1,6 +1,6 @@
 -- The graph that the search goes through: its nodes are the corners of all regions in all modes, by their numbers, and its edges are the
--- corner edges of the allowed steps, each labelled with the byte of its step. A path into the goal mode is then a corner path along a chain,
--- and its charge is what it adds to the price at which it begins.
+-- corner edges of the allowed steps, each labelled with the byte of its step. A path into the goal mode then goes along a chain, from corner
+-- to corner, and its charge is what it adds to the price at which it begins.
 -- Assumes nothing.
 use mathlib.Core.List.{List, [], _∷_, map, List·Memᴰ}
 use mathlib.Core.Option.{none, some}
@@ -8,11 +8,12 @@ use Prim.Native.Nat.{ℕ, suc, max, _≤_}
 use lib.Dec.{eqb}
 use lib.ListN.{replicate}
 use Rattle.semantics.specs.Automaton.{Mode, Move, Automaton}
-use Rattle.semantics.specs.Corner.{flatMap}
-use Rattle.semantics.specs.Path.{Edge, Graph}
-use Rattle.semantics.specs.Node.{Node, nodeOf, nodeCount, nodeNumber, nodeAt}
+use Rattle.semantics.specs.Corners.Corner.{flatMap}
+use Rattle.semantics.specs.Graph.Path.{Edge, Graph}
+use Rattle.semantics.specs.NodeCount.{nodeCount}
+use Rattle.semantics.specs.Nodes.Node.{Node, nodeOf, nodeNumber, nodeAt}
 use Rattle.semantics.specs.Chain.{Place, step, begin}
-use Rattle.semantics.specs.CornerPath.{Edge as CornerEdge, edges}
+use Rattle.semantics.specs.Corners.Edges.{Edge as CornerEdge, edges}
 use Rattle.semantics.specs.Answer.{stepBytes}
 
 -- k, the number of the highest group.

@@ -7,16 +7,13 @@ use Prim.Native.Nat.{ℕ, _≤_}
 use lib.Dec.{leb}
 use lib.ListN.{getD, take}
 use Rattle.semantics.specs.Node.{Node, factor}
+pub use Rattle.reader.specs.Fields.{mostModes, mostCeiling}
 use Rattle.regions.specs.declared.nodes.Nodes.{Nodes}
 use Rattle.regions.specs.declared.nodes.Nodes.the-variants.{Count, TooMany}
 use Rattle.regions.specs.declared.nodes.NodeAt.{NodeAt}
 use Rattle.regions.specs.Held.{mostTimers, pad, packCorner}
 
--- "n ceilings, 1 to 15".
-abbrev pub mostCeiling : ℕ
-mostCeiling = 15
-
--- No ceiling of the array is above it.
+-- No ceiling of the array is above the greatest.
 abbrev pub CeilingsFew : List ℕ → Type 0
 CeilingsFew ceilings = (i : ℕ) → getD ceilings i 0 ≤ mostCeiling
 
@@ -26,10 +23,7 @@ pub record IsFactor (ceiling r : ℕ) : Type 0 where
   pub low : 1 ≤ r
   pub high : r ≤ 16
 
--- There are at most so many modes and so many cells; and no three bytes for whole parts give a greater cell number.
-abbrev pub mostModes : ℕ
-mostModes = 16
-
+-- There are at most so many cells; and no three bytes for whole parts give a greater cell number.
 abbrev pub mostCells : ℕ
 mostCells = 4096
 

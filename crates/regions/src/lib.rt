@@ -31,9 +31,9 @@ pub struct CornerAt {
 }
 
 impl Region {
-    pub const MOST_TIMERS: usize = 3;
+    pub const MOST_TIMERS: usize = reader::MOST_TIMERS;
 
-    pub const MOST_CORNERS: usize = 4;
+    pub const MOST_CORNERS: usize = Region::MOST_TIMERS + 1;
 
     // "The start region has all timers in r0 and the single price 0."
     pub fn start(timers: usize) -> Region

@@ -6,16 +6,14 @@ use lib.ListN.{length, getD, take}
 use Rattle.semantics.specs.Region.{PricedRegion, WellFormed, top}
 use Rattle.semantics.specs.Corners.Corner.{Corner}
 pub use Rattle.semantics.specs.Graph.CornerGraph.{highest}
+pub use Rattle.reader.specs.Fields.{mostTimers}
 pub use Rattle.reader.specs.Held.{pad}
 use Rattle.regions.specs.declared.Region.{Region}
-use Rattle.regions.specs.declared.CornerAt.{CornerAt}
+use Rattle.regions.specs.declared.tables.CornerAt.{CornerAt}
 
--- The struct's associated constants.
-abbrev pub mostTimers : ℕ
-mostTimers = 3
-
+-- "one to four corner prices with three timers".
 abbrev pub mostCorners : ℕ
-mostCorners = 4
+mostCorners = suc mostTimers
 
 -- The struct that holds a priced region.
 unfoldable pub pack : PricedRegion → Region

@@ -9,13 +9,7 @@ use lib.Dec.{ltb, eqb}
 use lib.ListN.{length, getD, set}
 use Rattle.semantics.specs.Graph.Path.{infinity, chargeAt}
 use Rattle.semantics.specs.Paths.Ahead.{mostClasses, noted, boundOf}
-
--- "modes m, 1 to 16", "moves e, 0 to 64".
-abbrev pub mostModes : ℕ
-mostModes = 16
-
-abbrev pub mostMoves : ℕ
-mostMoves = 64
+pub use Rattle.reader.specs.Fields.{mostModes, mostMoves}
 
 -- The list has the numbers of the moves whose source is the mode, and no others.
 pub record OwnMoves (sources : List ℕ) (moves mode : ℕ) (own : List ℕ) : Type 0 where

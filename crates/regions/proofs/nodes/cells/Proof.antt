@@ -1,4 +1,4 @@
--- `regions::nodes::cell_count` meets its contract. Assumes nothing.
+-- `regions::nodes::cells` meets its contract. Assumes nothing.
 use Prim.Native.Nat.{_*_, _≤_}
 use mathlib.Core.Path.{_≡_}
 use native.Mathlib.Nat.{mul-le-mul}
@@ -6,8 +6,8 @@ use native.Mathlib.Omega.{arith}
 use lib.ListN.{length}
 use Rattle.regions.proofs.Cells.{product-few, count-is}
 use borrow.Author.Needs.{needs}
-use Rattle.regions.proofs.nodes.cell_count.Statement.{statement}
-use Rattle.regions.proofs.nodes.cell_count.Tie as tie
+use Rattle.regions.proofs.nodes.cells.Statement.{statement}
+use Rattle.regions.proofs.nodes.cells.Tie as tie
 
 -- The products of the factors.
 two : (c : tie.After-factor3) → c .factor3 .result * c .before .factor2 .result ≤ 256
@@ -50,8 +50,8 @@ returns c =
     let three : length l ≡ 3 = search needs in
     (count-is l three (c .before .before .factor .ensures .is) (c .before .factor2 .ensures .is) (c .factor3 .ensures .is), one c, all c)
 
-pub cell-count-spec : {M : Type 1} → statement M
-cell-count-spec =
+pub cells-spec : {M : Type 1} → statement M
+cells-spec =
     tie.close
     (tie.spec
     array-read-factor

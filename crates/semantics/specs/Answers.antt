@@ -21,5 +21,7 @@ pub mod Table
 pub mod Forward
 pub mod Onward
 pub mod Walk
+pub mod Marks
+pub mod Trail
 -- The answer that antt computes.
 pub mod Computed

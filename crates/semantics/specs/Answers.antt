@@ -23,5 +23,6 @@ pub mod Onward
 pub mod Walk
 pub mod Marks
 pub mod Trail
+pub mod Led
 -- The answer that antt computes.
 pub mod Computed

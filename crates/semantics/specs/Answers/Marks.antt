@@ -20,7 +20,7 @@ use Rattle.semantics.specs.Paths.Cost.{cost-charge}
 use Rattle.semantics.specs.Paths.Least.{no-less-cost}
 use Rattle.semantics.specs.Paths.Turned.{turned-nodes}
 use Rattle.semantics.specs.Paths.Route.{Completes, completes-before}
-use Rattle.semantics.specs.Answers.Places.{corner-top, reached-place}
+use Rattle.semantics.specs.Answers.Places.{IsPlace, corner-top, reached-place}
 use Rattle.semantics.specs.Answers.Moving.{number-row}
 use Rattle.semantics.specs.Answers.System.{chains, chains-follow, reached-next, begin-starts}
 use Rattle.semantics.specs.Answers.Table.{begin-completes}
@@ -28,15 +28,19 @@ use Rattle.semantics.specs.Answers.Forward.{near-kept, into-least, from-
 use Rattle.semantics.specs.Answers.Onward.{step-chain, rest-entry, chain-bound}
 use Rattle.semantics.specs.Answers.Walk.{NearCosts, Stands, OffRoute, LeavesAt, Leaves, Walk}
 
--- By the table an edge with the label k is tight from node v, which is reached in n steps, to node w: along it w is reached at the charge that w has.
+-- By the table node v is reached in n steps, and w at this weight more, in one step more.
+pub record Grows (d : ℕ → Entry) (n weight v w : ℕ) : Type 0 where
+  pub charge : ℕ
+  pub from : d v ≡ reached (cost charge n)
+  pub to : d w ≡ reached (cost (charge + weight) (suc n))
+
+-- An edge with the label k leads from v to w, and by the table it is tight: w is reached along it.
 pub record Tight (g : Graph) (d : ℕ → Entry) (n k v w : ℕ) : Type 0 where
   pub edge : Edge
   pub leaves : LeavesNode g v edge
   pub labelled : edge .label ≡ k
   pub leads : edge .to ≡ w
-  pub charge : ℕ
-  pub from : d v ≡ reached (cost charge n)
-  pub entry : d w ≡ reached (cost (charge + edge .weight) (suc n))
+  pub grows : Grows d n (edge .weight) v w
 
 module _ (a : Automaton) (l : ℕ) (d : ℕ → Entry) (p : Place) (n : ℕ) (S : ℕ → Type 0) where
   -- S marks corners of the place p, to which n steps led: only such as stand, and all through which a best path goes.
@@ -93,12 +97,12 @@ module _ {a : Automaton} {l : ℕ} {d : ℕ → Entry} {p : Place} {n : ℕ} {S 
       ap (λ (c : Cost). c .steps) z
 
 -- The corners of a place are different nodes.
-corners-differ :
-    (a : Automaton) (p : Place) → Reached a p → (i j : ℕ) → i < length (p .region .prices) → j < length (p .region .prices)
+pub corners-differ :
+    (a : Automaton) (p : Place) → IsPlace a p → (i j : ℕ) → i < length (p .region .prices) → j < length (p .region .prices)
     → numberOf a p i ≡ numberOf a p j → i ≡ j
 corners-differ a p h i j b c e =
     let row : (k : ℕ) → k < length (p .region .prices) → numberOf a p k ≡ numberOf a p 0 + k =
-    λ k x. number-row a p (reached-place a p h) k (corner-top (p .region) (h .well-formed) k .0 x) in
+    λ k x. number-row a p h k (corner-top (p .region) (h .well-formed) k .0 x) in
     omega (arith, row i b, row j c)
 
 module _ (a : Automaton) (ok : Proper a) (l : ℕ) where
@@ -157,19 +161,21 @@ module _ (a : Automaton) (ok : Proper a) (l : ℕ) where
             leaves = o .leaves;
             labelled = o .labelled;
             leads = o .leads;
-            charge = price (p .region) (o .corner);
-            from = subst (λ (j : ℕ). d (numberOf a p j) ≡ reached (cost (price (p .region) j) (length ks))) (u .1) from;
-            entry = to ∙ ap (λ (c : Cost). reached c) (λ i. record { charge = o .priced i; steps = more i });
+            grows = record {
+              charge = price (p .region) (o .corner);
+              from = subst (λ (j : ℕ). d (numberOf a p j) ≡ reached (cost (price (p .region) j) (length ks))) (u .1) from;
+              to = to ∙ ap (λ (c : Cost). reached c) (λ i. record { charge = o .priced i; steps = more i });
+            };
           };
         }
 
     module _ (B : Cost) (best : distance (cornerGraph a l) (startNode a) ≡ reached B) (i : ℕ) (t : Led a l d p (length ks) S k z i) where
       -- The table's charge of a marked corner is its price.
-      led-charge : t .tight .charge ≡ price (p .region) (t .corner)
+      led-charge : t .tight .grows .charge ≡ price (p .region) (t .corner)
       led-charge =
-          let x = t .tight .from in
+          let x = t .tight .grows .from in
           let y = m .stands (t .corner) (t .marked) in
-          let e : cost (t .tight .charge) (length ks) ≡ cost (price (p .region) (t .corner)) (length ks) = cc in
+          let e : cost (t .tight .grows .charge) (length ks) ≡ cost (price (p .region) (t .corner)) (length ks) = cc in
           ap (λ (c : Cost). c .charge) e
 
       -- A tight edge comes to no less than the price of its end,
@@ -178,7 +184,7 @@ module _ (a : Automaton) (ok : Proper a) (l : ℕ) where
           let o = chains-follow a ok l .successor p (t .corner) (t .tight .edge) here (m .among (t .corner) (t .marked)) (t .tight .leaves) in
           let q : o .next ≡ z = Option·some-injective (o .next) z (sym (o .step) ∙ ap (λ (b : ℕ). step a b p) (t .tight .labelled) ∙ f) in
           let leads : numberOf a z (o .corner) ≡ numberOf a z i = (rw q at (o .leads)) ∙ t .tight .leads in
-          let same = corners-differ a z (reached-next a ok p z k here f) (o .corner) i (rw q at (o .among)) (t .there) leads in
+          let same = corners-differ a z (reached-place a z (reached-next a ok p z k here f)) (o .corner) i (rw q at (o .among)) (t .there) leads in
           rw (q, same) at (o .priced)
 
       -- and to no more, since the table has least costs from the start and the price is the cost of a path.
@@ -186,9 +192,9 @@ module _ (a : Automaton) (ok : Proper a) (l : ℕ) where
       led-low =
           let s = startNode a in
           let v = numberOf a z i in
-          let c = cost (t .tight .charge + t .tight .edge .weight) (suc (length ks)) in
+          let c = cost (t .tight .grows .charge + t .tight .edge .weight) (suc (length ks)) in
           let inside = corner-inside a ok l z i (reached-next a ok p z k here f) (t .there) in
-          let near = near-kept (distance g s) (distance (turned g s) v) B c best (w .kept v c inside (t .tight .entry)) .0 in
+          let near = near-kept (distance g s) (distance (turned g s) v) B c best (w .kept v c inside (t .tight .grows .to)) .0 in
           let path = chain-paths a ok l (ks ++ k ∷ []) z longer i (t .there) in
           let low = no-less-cost (turned g s) v c _ (from-least a ok l .least v c (rw (turned-nodes g s) inside) near) path in
           omega (arith, cost-charge c _ low, led-charge)
@@ -199,7 +205,7 @@ module _ (a : Automaton) (ok : Proper a) (l : ℕ) where
 
       -- The corner stands.
       pub led-stands : d (numberOf a z i) ≡ reached (cost (price (z .region) i) (suc (length ks)))
-      led-stands = t .tight .entry ∙ ap (λ (c : ℕ). reached (cost c (suc (length ks)))) (omega (arith, led-price, led-charge))
+      led-stands = t .tight .grows .to ∙ ap (λ (c : ℕ). reached (cost c (suc (length ks)))) (omega (arith, led-price, led-charge))
 
     -- Marked next are the corners that tight edges lead to.
     pub marks-next :

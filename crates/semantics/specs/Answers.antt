@@ -21,5 +21,8 @@ pub mod Table
 pub mod Forward
 pub mod Onward
 pub mod Walk
+pub mod Marks
+pub mod Trail
+pub mod Led
 -- The answer that antt computes.
 pub mod Computed

@@ -1,8 +1,8 @@
 -- The edges of an allowed step: each leads to a corner of the next region, and weighs at most the greatest rate or price.
 -- Assumes nothing.
 use mathlib.Core.Logic.{inl, inr}
-use mathlib.Core.List.{List·Memᴰ, List·Memᴰ·not-nil, List·Memᴰ·cases-cons, List·Memᴰ·eq-of-singleton}
-use Prim.Native.Nat.{ℕ, zero, suc, _≤_}
+use mathlib.Core.List.{List·Memᴰ, List·Memᴰ·eq-of-singleton}
+use Prim.Native.Nat.{ℕ, suc, _≤_}
 use native.Mathlib.Omega.{arith}
 use borrow.Author.Tests.{eq-eqb, ne-eqb, lt-ltb}
 use Rattle.semantics.specs.Automaton.{Automaton, modeAt, moveAt, Proper}
@@ -12,7 +12,7 @@ use Rattle.semantics.specs.Corners.Edges.{Edge, passEdges, dropEdges, ed
 use Rattle.semantics.specs.Graph.CornerGraph.{PricesWithin}
 use Rattle.semantics.specs.Corners.Lists.{mem-getD}
 use Rattle.semantics.specs.Bounds.Steps.{rateAt, Stepped, leaves, arrives, lingers, idles, moves}
-use Rattle.semantics.specs.Bounds.Flow.{step-flow}
+use Rattle.semantics.specs.Bounds.Flow.{pass-cases, drop-cases, step-flow}
 use Rattle.semantics.specs.Answers.Places.{IsPlace}
 
 -- Where an edge of a step to p leads, and what it weighs.
@@ -22,15 +22,10 @@ pub record StepEdge (a : Automaton) (p : Place) (e : Edge) : Type 0 where
 
 -- The edges that keep a price weigh nothing, and those that wait weigh the rate.
 pass-light : (last rate j w : ℕ) → rate ≤ w → (e : Edge) → List·Memᴰ e (passEdges last rate j) → e .weight ≤ w
-pass-light last rate zero w h e m = elim (List·Memᴰ·cases-cons m) [
-  | inl q ↦ rw q (omega arith)
-  | inr q ↦ rw (List·Memᴰ·eq-of-singleton q) h
-]
-pass-light last rate (suc j) w h e m = rw (List·Memᴰ·eq-of-singleton m) (omega arith)
+pass-light last rate j w h e m = elim (pass-cases last rate j e m) [ inl q ↦ rw q (omega arith) | inr q ↦ rw (q .1) h ]
 
 drop-light : (j w : ℕ) (e : Edge) → List·Memᴰ e (dropEdges j) → e .weight ≤ w
-drop-light zero w e m = absurd (List·Memᴰ·not-nil m)
-drop-light (suc j) w e m = rw (List·Memᴰ·eq-of-singleton m) (omega arith)
+drop-light j w e m = rw (drop-cases j e m .2) (omega arith)
 
 module _ (a : Automaton) (ok : Proper a) (p : Place) (h : IsPlace a p) where
   rate-light : (w : ℕ) → PricesWithin a w → rateAt a p ≤ w

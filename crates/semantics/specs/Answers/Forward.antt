@@ -69,7 +69,7 @@ module _ (a : Automaton) (ok : Proper a) (l : ℕ) where
   pub into-least : LeastCosts g (distance g)
   into-least = distance-least g (graph-closed a l ok)
 
-  from-least : LeastCosts (turned g s) (distance (turned g s))
+  pub from-least : LeastCosts (turned g s) (distance (turned g s))
   from-least = distance-least (turned g s) (turned-closed g s)
 
   -- The theory of routes goes for the first.

@@ -25,17 +25,20 @@ use Rattle.semantics.specs.Bounds.Alike.{edges-alike, step-alike}
 use Rattle.semantics.specs.Answers.Places.{IsPlace, corner-top, number-below, number-node, node-same, node-is-place, node-index, place-step}
 use Rattle.semantics.specs.Answers.Edges.{step-edge}
 
-same-sym : (p s : Place) → SamePlace p s → SamePlace s p
+pub same-sym : (p s : Place) → SamePlace p s → SamePlace s p
 same-sym p s e = record { mode = sym (e .mode); region = shape-sym _ _ (e .region) }
 
 -- The edges of a step do not go by the prices.
 module _ (a : Automaton) where
   -- The corners of two places of one shape have the same numbers.
+  pub number-alike : (p s : Place) → SamePlace p s → (j : ℕ) → numberOf a p j ≡ numberOf a s j
+  number-alike p s e j =
+      let node : nodeOf (p .mode) (p .region) j ≡ nodeOf (s .mode) (s .region) j =
+      λ i. record { mode = e .mode i; whole = e .region .whole i; corner = record { group = e .region .group i; index = j } } in
+      ap (nodeNumber (a .ceilings)) node
+
   pub numbered-alike : (byte : ℕ) (p s : Place) → SamePlace p s → numbered a byte p ≡ numbered a byte s
-  numbered-alike byte p s e =
-      let node : (j : ℕ) → nodeOf (p .mode) (p .region) j ≡ nodeOf (s .mode) (s .region) j =
-      λ j i. record { mode = e .mode i; whole = e .region .whole i; corner = record { group = e .region .group i; index = j } } in
-      λ i d. record { label = byte; weight = d .weight; to = nodeNumber (a .ceilings) (node (d .corner) i) }
+  numbered-alike byte p s e = λ i d. record { label = byte; weight = d .weight; to = number-alike p s e (d .corner) i }
 
   -- From places of one shape a step leads to places of one shape, if it is allowed from both.
   step-same :

@@ -53,7 +53,7 @@ pub record MoveEdge (a : Automaton) (p : Place) (j : ℕ) (x : Edge) : Type 0 wh
 
 module _ (a : Automaton) (p : Place) where
   -- Where the step of a move leads.
-  abbrev chargedTo : ℕ → Place
+  abbrev pub chargedTo : ℕ → Place
   chargedTo e = record { mode = moveAt a e .target; region = movedBy a e (p .region) }
 
   -- The price of the move changes no test and no number.
@@ -63,20 +63,20 @@ module _ (a : Automaton) (p : Place) where
       ≡ meetsAll (modeAt a (moveAt a e .target) .conditions) (movedBy a e (p .region))
   charged-meets e = shape-meetsAll _ _ (shape-charge (moveAt a e .price) (movedTo a e p .region)) (modeAt a (moveAt a e .target) .conditions)
 
-  charged-number : (e i : ℕ) → numberOf a (chargedTo e) i ≡ numberOf a (movedTo a e p) i
+  pub charged-number : (e i : ℕ) → numberOf a (chargedTo e) i ≡ numberOf a (movedTo a e p) i
   unfolding charge
   charged-number e i = refl
 
   module _ (j : ℕ) where
     -- The only corner edge of a move.
-    abbrev moveCorner : ℕ → CornerEdge
+    abbrev pub moveCorner : ℕ → CornerEdge
     moveCorner e = record { corner = resetAllCorner (moveAt a e .resets) (p .region) j; weight = moveAt a e .price }
 
-    move-corner : (e : ℕ) → e < 64 → (d : CornerEdge) → List·Memᴰ d (edges a e p j) → d ≡ moveCorner e
+    pub move-corner : (e : ℕ) → e < 64 → (d : CornerEdge) → List·Memᴰ d (edges a e p j) → d ≡ moveCorner e
     unfolding edges
     move-corner e b d m = List·Memᴰ·eq-of-singleton (rw (lt-ltb e 64 b) at m)
 
-    move-listed : (e : ℕ) → e < 64 → List·Memᴰ (moveCorner e) (edges a e p j)
+    pub move-listed : (e : ℕ) → e < 64 → List·Memᴰ (moveCorner e) (edges a e p j)
     unfolding edges
     move-listed e b = rw (lt-ltb e 64 b) (List·Memᴰ·head refl)
 

@@ -51,7 +51,7 @@ module _ (a : Automaton) (ok : Proper a) (l : ℕ) (B : Cost) (best : distance (
 
   module _ (ks : List ℕ) (p : Place) (f : chain a ks ≡ some p) where
     -- Nothing less than B leads through the place.
-    chain-bound : (m : ℕ) → length ks + m ≡ B .steps → LowerBound (chains a) (distance g) p (cost (B .charge) m)
+    pub chain-bound : (m : ℕ) → length ks + m ≡ B .steps → LowerBound (chains a) (distance g) p (cost (B .charge) m)
     chain-bound m e = forward-bound a ok l p (chain-reached a ok ks p f) B best (length ks) m e (chain-paths a ok l ks p f)
 
     -- If no step leads on from a place that is not in the goal, no route goes through it.

@@ -1,11 +1,11 @@
 -- The edges of delay in the corner graph: from which corner to which they lead, and what they weigh. With the indices of its corners as the
 -- prices of a region, the prices after a delay say from which corner each comes.
 -- Assumes nothing.
-use mathlib.Core.Path.{_≡_, refl, ap, ap₂, _∙_, sym, subst}
+use mathlib.Core.Path.{_≡_, refl, ap, ap₂, _∙_, sym, subst, subst₂}
 use mathlib.Core.Bool.{true, cond}
 use mathlib.Core.Logic.{⊎-elim}
-use mathlib.Core.List.{List, List·Memᴰ, List·Memᴰ·head, List·Memᴰ·tail, List·Memᴰ·not-nil, List·Memᴰ·cases-cons, List·Memᴰ·eq-of-singleton}
-use Prim.Native.Nat.{ℕ, zero, suc, _≤_}
+use mathlib.Core.List.{List, List·Memᴰ, List·Memᴰ·head}
+use Prim.Native.Nat.{ℕ, suc, _≤_}
 use native.Mathlib.Decide.{ℕ-discrete}
 use native.Mathlib.Omega.{arith}
 use borrow.Author.Tests.{eq-eqb, ne-eqb, lt-ltb, le-ltb}
@@ -20,6 +20,7 @@ use Rattle.semantics.specs.Regions.Cases.{zero-cases, delay-arrive, dela
 use Rattle.semantics.specs.Regions.Lengths.{leave-top, arrive-top}
 use Rattle.semantics.specs.Regions.Groups.{top-pos}
 use Rattle.semantics.specs.Bounds.Prices.{price, leave-price, leave-last, arrive-price}
+use Rattle.semantics.specs.Bounds.Flow.{pass-keeps, pass-passes, pass-cases, drop-cases}
 use Rattle.semantics.specs.Bounds.Stays.{Admits}
 use Rattle.semantics.specs.Bounds.Steps.{rateAt, Stepped, leaves, arrives, lingers, idles, moves, delayed, step-view, view-step}
 use Rattle.semantics.specs.Bounds.Shapes.{shape-delay, shape-admits}
@@ -81,20 +82,20 @@ module _ (r : PricedRegion) (w : WellFormed r) (indexed : Indexed r) (rate : ℕ
   }
 
   leave-out : (j : ℕ) → j ≤ top r → (e : CornerEdge) → List·Memᴰ e (passEdges (suc (top r)) rate j) → Out r (leave 0 r) rate j e
-  leave-out zero h e m =
-      ⊎-elim (λ q. subst (Out r (leave 0 r) rate 0) (sym q) (leave-old 0 h))
-      (λ n. subst (Out r (leave 0 r) rate 0) (sym (List·Memᴰ·eq-of-singleton n)) leave-new)
-      (List·Memᴰ·cases-cons m)
-  leave-out (suc j) h e m = subst (Out r (leave 0 r) rate (suc j)) (sym (List·Memᴰ·eq-of-singleton m)) (leave-old (suc j) h)
+  leave-out j h e m =
+      ⊎-elim (λ q. subst (Out r (leave 0 r) rate j) (sym q) (leave-old j h))
+      (λ q. subst₂ (Out r (leave 0 r) rate) (sym (q .0)) (sym (q .1)) leave-new)
+      (pass-cases (suc (top r)) rate j e m)
 
   arrive-out : (j : ℕ) → j ≤ top r → (e : CornerEdge) → List·Memᴰ e (dropEdges j) → Out r (arrive r) rate j e
-  arrive-out zero h e m = absurd (List·Memᴰ·not-nil m)
-  arrive-out (suc j) h e m =
-      subst (Out r (arrive r) rate (suc j)) (sym (List·Memᴰ·eq-of-singleton m))
+  arrive-out j h e m =
+      let o = drop-cases j e m in
+      let i = o .0 in
+      subst₂ (Out r (arrive r) rate) (sym (o .1)) (sym (o .2))
       (record {
-        there = omega (arith, arrive-top r w);
-        comes = arrive-price r j ∙ indexed (suc j) h;
-        is = old-edge j (omega arith);
+        there = omega (arith, arrive-top r w, o .1);
+        comes = arrive-price r i ∙ indexed (suc i) (omega (arith, o .1));
+        is = old-edge i (omega (arith, o .1));
       })
 
   delay-out : (j : ℕ) → j ≤ top r → (e : CornerEdge) → List·Memᴰ e (delayEdges rate r j) → Out r (delay 0 r) rate j e
@@ -103,21 +104,16 @@ module _ (r : PricedRegion) (w : WellFormed r) (indexed : Indexed r) (rate : ℕ
       (λ z. rw (delay-leave 0 r z) (leave-out j h e (rw (ne-eqb (count 0 (r .group)) 0 (λ e. omega arith)) at m)))
       (zero-cases r)
 
-  -- An old corner keeps its price.
-  kept-listed : (i : ℕ) → List·Memᴰ (record { corner = i; weight = 0 }) (passEdges (suc (top r)) rate i)
-  kept-listed zero = List·Memᴰ·head refl
-  kept-listed (suc i) = List·Memᴰ·head refl
-
   leave-in : (i : ℕ) → i ≤ suc (top r) → In r (leave 0 r) rate (passEdges (suc (top r)) rate) i
   leave-in i h = go (ℕ-discrete i (suc (top r)))
     where
       go : Dec (i ≡ suc (top r)) → In r (leave 0 r) rate (passEdges (suc (top r)) rate) i
       go (yes q) =
           let e : price (leave 0 r) (suc (top r)) ≡ 0 = omega (arith, leave-last r w 0, indexed 0 (omega arith)) in
-          rw q (record { there = rw e (omega arith); listed = rw (e, ← new-edge) (List·Memᴰ·tail (List·Memᴰ·head refl)) })
+          rw q (record { there = rw e (omega arith); listed = rw (e, ← new-edge) (pass-passes (suc (top r)) rate) })
       go (no n) =
           let e : price (leave 0 r) i ≡ i = leave-price r w 0 i (omega arith) ∙ indexed i (omega arith) in
-          record { there = rw e (omega arith); listed = rw (e, ← old-edge i (omega arith)) (kept-listed i) }
+          record { there = rw e (omega arith); listed = rw (e, ← old-edge i (omega arith)) (pass-keeps (suc (top r)) rate i) }
 
   arrive-in : count 0 (r .group) ≡ 0 → (i : ℕ) → i ≤ top (arrive r) → In r (arrive r) rate dropEdges i
   arrive-in z i h =
@@ -143,17 +139,17 @@ delay-comes p w indexed i h = delay-in (p .region) w indexed 0 i h .there
 
 module _ (a : Automaton) (p : Place) where
   -- The place after a delay at the mode's own rate has the shape of `delayedTo`.
-  abbrev after : Place
+  abbrev pub after : Place
   after = record { mode = p .mode; region = delay (rateAt a p) (p .region) }
 
-  after-same : SamePlace after (delayedTo p)
+  pub after-same : SamePlace after (delayedTo p)
   after-same = record { mode = refl; region = shape-delay (rateAt a p) 0 (p .region) }
 
   after-numbered : (e : CornerEdge) → numbered a 64 after e ≡ numbered a 64 (delayedTo p) e
   after-numbered e = ap (λ (f : CornerEdge → Edge). f e) (numbered-alike a 64 after (delayedTo p) after-same)
 
   -- The step of a delay is the one to `after`.
-  after-step : {byte : ℕ} {p′ : Place} → Stepped a p byte p′ → byte ≡ 64 → Admits a (p .mode) (after .region) × (p′ ≡ after)
+  pub after-step : {byte : ℕ} {p′ : Place} → Stepped a p byte p′ → byte ≡ 64 → Admits a (p .mode) (after .region) × (p′ ≡ after)
   after-step (leaves z t) e = let q = delay-leave (rateAt a p) (p .region) z in (rw q t, rw q refl)
   after-step (arrives z t) e = let q = delay-arrive (rateAt a p) (p .region) z in (rw q t, rw q refl)
   after-step (lingers z) e = absurd (omega arith)
@@ -161,7 +157,7 @@ module _ (a : Automaton) (p : Place) where
   after-step (moves i b c o g m) e = absurd (omega arith)
 
   -- Its edges.
-  delay-edges : (j : ℕ) → edges a 64 p j ≡ delayEdges (rateAt a p) (p .region) j
+  pub delay-edges : (j : ℕ) → edges a 64 p j ≡ delayEdges (rateAt a p) (p .region) j
   unfolding edges
   delay-edges j = refl
 

@@ -4,8 +4,8 @@
 use mathlib.Core.Path.{_≡_, refl, ap, _∙_, subst}
 use mathlib.Core.Bool.{true}
 use mathlib.Core.Logic.{_↔_, _⊎_, inl, inr, ⊎-elim}
-use mathlib.Core.List.{List·Memᴰ, List·Memᴰ·head, List·Memᴰ·tail, List·Memᴰ·cases-cons, List·Memᴰ·eq-of-singleton}
-use Prim.Native.Nat.{ℕ, zero, suc, _≤_, _<_}
+use mathlib.Core.List.{List·Memᴰ, List·Memᴰ·eq-of-singleton}
+use Prim.Native.Nat.{ℕ, suc, _≤_, _<_}
 use native.Mathlib.Decide.{ℕ-discrete}
 use native.Mathlib.Omega.{arith}
 use borrow.Author.Tests.{eq-eqb, ne-eqb, eqb-true}
@@ -21,6 +21,7 @@ use Rattle.semantics.specs.Regions.Groups.{top-pos}
 use Rattle.semantics.specs.Regions.WellFormed.{delay-well-formed}
 use Rattle.semantics.specs.Nodes.Regions.{within-cell}
 use Rattle.semantics.specs.Nodes.Rising.{delay-node-rises}
+use Rattle.semantics.specs.Bounds.Flow.{pass-passes, pass-cases}
 use Rattle.semantics.specs.Bounds.Steps.{rateAt, Stepped, leaves, arrives, lingers, idles, moves, step-view, view-step}
 use Rattle.semantics.specs.Bounds.Shapes.{shape-sym, shape-linger}
 use Rattle.semantics.specs.Answers.Places.{IsPlace, corner-top}
@@ -63,11 +64,9 @@ record Last (r : PricedRegion) (rate j : ℕ) (e : CornerEdge) : Type 0 where
 
 module _ (r : PricedRegion) (rate : ℕ) where
   pass-out : noZero r ≡ true → (j : ℕ) (e : CornerEdge) → List·Memᴰ e (passEdges (top r) rate j) → (e .corner ≡ j) ⊎ Last r rate j e
-  pass-out z zero e m =
-      ⊎-elim (λ q. inl (ap (λ (d : CornerEdge). d .corner) q))
-      (λ n. inr (record { empty = z; first = refl; is = List·Memᴰ·eq-of-singleton n }))
-      (List·Memᴰ·cases-cons m)
-  pass-out z (suc j) e m = inl (ap (λ (d : CornerEdge). d .corner) (List·Memᴰ·eq-of-singleton m))
+  pass-out z j e m =
+      ⊎-elim (λ q. inl (ap (λ (d : CornerEdge). d .corner) q)) (λ q. inr (record { empty = z; first = q .0; is = q .1 }))
+      (pass-cases (top r) rate j e m)
 
   linger-out : (j : ℕ) (e : CornerEdge) → List·Memᴰ e (lingerEdges rate r j) → (e .corner ≡ j) ⊎ Last r rate j e
   linger-out j e m =
@@ -78,14 +77,14 @@ module _ (r : PricedRegion) (rate : ℕ) where
 
 module _ (a : Automaton) (p : Place) where
   -- Linger keeps the shape of the place.
-  linger-same : {byte : ℕ} {p′ : Place} → Stepped a p byte p′ → byte ≡ 65 → SamePlace p′ p
+  pub linger-same : {byte : ℕ} {p′ : Place} → Stepped a p byte p′ → byte ≡ 65 → SamePlace p′ p
   linger-same (leaves z t) e = absurd (omega arith)
   linger-same (arrives z t) e = absurd (omega arith)
   linger-same (lingers z) e = record { mode = refl; region = shape-sym _ _ (shape-linger (rateAt a p) (p .region)) }
   linger-same (idles z) e = record { mode = refl; region = record { whole = refl; group = refl; corners = refl } }
   linger-same (moves i b c o g m) e = absurd (omega arith)
 
-  linger-edges : (j : ℕ) → edges a 65 p j ≡ lingerEdges (rateAt a p) (p .region) j
+  pub linger-edges : (j : ℕ) → edges a 65 p j ≡ lingerEdges (rateAt a p) (p .region) j
   unfolding edges
   linger-edges j = refl
 
@@ -111,7 +110,7 @@ module _ (a : Automaton) (l : ℕ) (p : Place) (h : IsPlace a p) where
       → Leaves (cornerGraph a l) (numberOf a p 0) (record { label = 65; weight = rateAt a p; to = numberOf a p (top (p .region)) })
   linger-edge z =
       let e : CornerEdge = record { corner = top (p .region); weight = rateAt a p } in
-      let k : List·Memᴰ e (lingerEdges (rateAt a p) (p .region) 0) = rw z (List·Memᴰ·tail (List·Memᴰ·head refl)) in
+      let k : List·Memᴰ e (lingerEdges (rateAt a p) (p .region) 0) = rw z (pass-passes (top (p .region)) (rateAt a p)) in
       rw (graph-edges a l p h 0 (h .well-formed .priced))
       (step-listed a p 0 65 _ (view-step a p (lingers (eqb-true (count 0 (p .region .group)) 0 z))) e (rw (linger-edges a p 0) k))
 

@@ -149,25 +149,29 @@ module _ (a : Automaton) (ok : Proper a) (l : ℕ) (B : Cost) (best : distance (
     pub walk-few : length ks ≤ B .steps
     walk-few = stands-from p (length ks) here-reached here-stands .2
 
-    -- The bytes up to byte′ lead to no place that stands.
+    -- The bytes up to byte′ lead to no place on a route.
+    pub walk-off :
+        (byte′ : ℕ) → ((k : ℕ) (z : Place) → byte ≤ k → k < byte′ → step a k p ≡ some z → OffRoute a l z (suc (length ks)))
+        → Walk a l d ks p byte′
+    walk-off byte′ off =
+        record { ends = w .ends; standing = w .standing; passed = w .passed; tried = λ k z h e. at k z h e (decLt k byte); kept = w .kept; left = w .left }
+      where
+        at : (k : ℕ) (z : Place) → k < byte′ → step a k p ≡ some z → Dec (k < byte) → OffRoute a l z (suc (length ks))
+        at k z h e (yes b) = w .tried k z b e
+        at k z h e (no b) = off k z (omega arith) h e
+
+    -- They lead to none that stands.
     pub walk-tried :
         (byte′ : ℕ)
         → ((k : ℕ) (z : Place) → byte ≤ k → k < byte′ → step a k p ≡ some z → Stands a d z (suc (length ks)) → ⊥)
         → Walk a l d ks p byte′
     walk-tried byte′ none =
-        record { ends = w .ends; standing = w .standing; passed = w .passed; tried = λ k z h e. at k z h e (decLt k byte); kept = w .kept; left = w .left }
-      where
-        more : (k : ℕ) → suc (length ks) ≡ length (ks ++ k ∷ [])
-        more k = omega (arith, length-append ks (k ∷ []))
-
-        at : (k : ℕ) (z : Place) → k < byte′ → step a k p ≡ some z → Dec (k < byte) → OffRoute a l z (suc (length ks))
-        at k z h e (yes b) = w .tried k z b e
-        at k z h e (no b) =
-            off-route z (suc (length ks))
-            (λ m x t.
-            none k z (omega arith) h e
-            (rw (more k)
-            (completes-stands d (w .left) (ks ++ k ∷ []) z (step-chain a ks p (w .ends) k z e) m (omega (arith, more k)) t)))
+        walk-off byte′
+        (λ k z b h e. off-route z (suc (length ks))
+        (λ m x t.
+        let more : suc (length ks) ≡ length (ks ++ k ∷ []) = omega (arith, length-append ks (k ∷ [])) in
+        none k z b h e
+        (rw more (completes-stands d (w .left) (ks ++ k ∷ []) z (step-chain a ks p (w .ends) k z e) m (omega (arith, more)) t))))
 
     -- The byte leads to a place that stands: a step more.
     pub walk-further : (p′ : Place) → step a byte p ≡ some p′ → Stands a d p′ (suc (length ks)) → Walk a l d (ks ++ byte ∷ []) p′ 0

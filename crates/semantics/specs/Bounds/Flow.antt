@@ -1,7 +1,7 @@
 -- Prices pass along edges: after a step, the price of a corner is the least sum of a price before it and the weight of an edge that leads there.
 -- Assumes nothing.
-use mathlib.Core.Path.{_≡_, refl, sym, subst, fun-ext}
-use mathlib.Core.Logic.{⊎-elim}
+use mathlib.Core.Path.{_≡_, refl, sym, ap, subst, fun-ext}
+use mathlib.Core.Logic.{_⊎_, inl, inr, ⊎-elim}
 use mathlib.Core.List.{List, [], _∷_, List·Memᴰ, List·Memᴰ·head, List·Memᴰ·tail, List·Memᴰ·not-nil, List·Memᴰ·cases-cons, List·Memᴰ·eq-of-singleton}
 use Prim.Native.Nat.{ℕ, zero, suc, _+_, _≤_}
 use native.Mathlib.Omega.{arith}
@@ -45,11 +45,27 @@ by-edges : {r s : PricedRegion} {out out′ : ℕ → List Edge} → ((j : ℕ) 
 by-edges {r} {s} e f = subst (Flow r s) (sym (fun-ext e)) f
 
 -- The edges that they are made of.
-abbrev keeps : ℕ → Edge
+abbrev pub keeps : ℕ → Edge
 keeps j = record { corner = j; weight = 0 }
 
-abbrev passes : ℕ → ℕ → Edge
+abbrev pub passes : ℕ → ℕ → Edge
 passes last rate = record { corner = last; weight = rate }
+
+pub pass-keeps : (last rate j : ℕ) → List·Memᴰ (keeps j) (passEdges last rate j)
+pass-keeps last rate zero = List·Memᴰ·head refl
+pass-keeps last rate (suc j) = List·Memᴰ·head refl
+
+pub pass-passes : (last rate : ℕ) → List·Memᴰ (passes last rate) (passEdges last rate 0)
+pass-passes last rate = List·Memᴰ·tail (List·Memᴰ·head refl)
+
+pub pass-cases :
+    (last rate j : ℕ) (e : Edge) → List·Memᴰ e (passEdges last rate j) → (e ≡ keeps j) ⊎ ((j ≡ 0) × (e ≡ passes last rate))
+pass-cases last rate zero e m = ⊎-elim inl (λ n. inr (refl, List·Memᴰ·eq-of-singleton n)) (List·Memᴰ·cases-cons m)
+pass-cases last rate (suc j) e m = inl (List·Memᴰ·eq-of-singleton m)
+
+pub drop-cases : (j : ℕ) (e : Edge) → List·Memᴰ e (dropEdges j) → (i : ℕ) × (j ≡ suc i) × (e ≡ keeps i)
+drop-cases zero e m = absurd (List·Memᴰ·not-nil m)
+drop-cases (suc j) e m = (j, refl, List·Memᴰ·eq-of-singleton m)
 
 -- Delay out of r0, and linger where r0 is empty.
 pass-flow :
@@ -57,26 +73,22 @@ pass-flow :
     → ((i : ℕ) → i ≤ top s → PassedFrom r s last rate i) → Flow r s (passEdges last rate)
 pass-flow r s last rate keep pass source = record { attained = λ i h. attained i (source i h); least = least }
   where
-    listed : (i : ℕ) → List·Memᴰ (keeps i) (passEdges last rate i)
-    listed zero = List·Memᴰ·head refl
-    listed (suc i) = List·Memᴰ·head refl
-
     attained : (i : ℕ) → PassedFrom r s last rate i → Incoming r (passEdges last rate) i (price s i)
-    attained i (kept h e) = record { from = i; there = h; edge = keeps i; listed = listed i; leads = refl; sum = omega arith }
+    attained i (kept h e) = record { from = i; there = h; edge = keeps i; listed = pass-keeps last rate i; leads = refl; sum = omega arith }
     attained i (passed h e) = record {
       from = 0;
       there = omega arith;
       edge = passes last rate;
-      listed = List·Memᴰ·tail (List·Memᴰ·head refl);
+      listed = pass-passes last rate;
       leads = sym h;
       sum = e;
     }
 
     least : (j : ℕ) → j ≤ top r → (e : Edge) → List·Memᴰ e (passEdges last rate j) → Outgoing r s j e
-    least zero h e m =
-        ⊎-elim (λ i. subst (Outgoing r s 0) (sym i) (keep 0 h)) (λ n. subst (Outgoing r s 0) (sym (List·Memᴰ·eq-of-singleton n)) pass)
-        (List·Memᴰ·cases-cons m)
-    least (suc j) h e m = subst (Outgoing r s (suc j)) (sym (List·Memᴰ·eq-of-singleton m)) (keep (suc j) h)
+    least j h e m =
+        ⊎-elim (λ q. subst (Outgoing r s j) (sym q) (keep j h))
+        (λ q. subst (Outgoing r s j) (sym (q .1)) (subst (λ (i : ℕ). Outgoing r s i (passes last rate)) (sym (q .0)) pass))
+        (pass-cases last rate j e m)
 
 module _ (r : PricedRegion) (w : WellFormed r) (rate : ℕ) where
   leave-flow : Flow r (leave rate r) (passEdges (suc (top r)) rate)
@@ -118,10 +130,10 @@ arrive-flow r w empty = record { attained = attained; least = least }
     }
 
     least : (j : ℕ) → j ≤ top r → (e : Edge) → List·Memᴰ e (dropEdges j) → Outgoing r (arrive r) j e
-    least zero h e m = absurd (List·Memᴰ·not-nil m)
-    least (suc j) h e m =
-        subst (Outgoing r (arrive r) (suc j)) (sym (List·Memᴰ·eq-of-singleton m))
-        (record { there = omega (arith, arrive-top r w); least = omega (arith, arrive-price r j) })
+    least j h e m =
+        let o = drop-cases j e m in
+        subst (Outgoing r (arrive r) j) (sym (o .2))
+        (record { there = omega (arith, arrive-top r w, o .1); least = omega (arith, arrive-price r (o .0), ap (price r) (o .1)) })
 
 -- A move: resets, and its price on every corner.
 module _ (a : Automaton) (ok : Proper a) (e : ℕ) (r : PricedRegion) (w : WellFormed r) (sized : length (r .whole) ≡ timers a) where

@@ -2,7 +2,7 @@
 -- state from which the rest of the cost can be completed, with one step fewer to come. This gives the first in label order of all lists of
 -- labels that arrive at the least cost.
 -- Assumes nothing.
-use mathlib.Core.Path.{_≡_, _∙_, ap}
+use mathlib.Core.Path.{_≡_, refl, _∙_, ap, sym, subst}
 use mathlib.Core.List.{List, [], _∷_}
 use mathlib.Core.Logic.{inl, inr}
 use mathlib.Core.Option.{some}
@@ -10,9 +10,12 @@ use Prim.Native.Nat.{ℕ, suc, _+_, _≤_, _<_}
 use native.Mathlib.Decide.{decLe}
 use native.Mathlib.Omega.{arith}
 use lib.ListN.{length, length-map}
+<<<<<<< HEAD
 use Rattle.semantics.specs.Order.{Cost, cost, _≼_, First}
 use Rattle.semantics.specs.Graph.Path.{Edge, Graph, IsPath, labelsOf, costOf, HasCost, Entry, reached, LeastCosts}
-use Rattle.semantics.specs.Paths.Cost.{cost-trans, cost-antisymm, cost-charge}
+use Rattle.semantics.specs.Paths.Cost.{cost-trans, cost-antisymm, cost-charge, cost-same}
+=======
+>>>>>>> 929654507b71ee5a66d6c2eb6f7d77577d626d29
 use Rattle.semantics.specs.Paths.Distance.{EntryCost, within-cost}
 use Rattle.semantics.specs.Paths.Least.{least-within}
 use Rattle.semantics.specs.Paths.Labels.{first-cons}
@@ -103,27 +106,33 @@ module _ {g : Graph} {s : System} {Valid : s .State → Type 0} {d : ℕ → Ent
         let e : a .price ≡ c .charge = omega arith in
         (ls, (rw e at (a .arrives), omega arith))
 
+    -- If the price of a corner and the cost of a path from it are c, then c can be completed at that corner: the entry comes to no more than the
+    -- path, and to no less than the lower bound.
+    pub completes-path :
+        (j : ℕ) (p : List Edge) → j < s .corners x → IsPath g (s .node x j) p → raised (s .price x j) (costOf p) ≡ c
+        → (t : Completes s d x c) × (t .corner ≡ j)
+    completes-path j p h w sum =
+        let e = corner-entry x j p ok h w in
+        let price = s .price x j in
+        let high = subst (λ (z : Cost). raised price (e .cost) ≼ z) sum (raised-mono price (e .cost) (costOf p) (e .within)) in
+        let k = cost-antisymm (raised price (e .cost)) c high (bound j h (e .cost) (e .entry)) in (
+          record {
+            corner = j;
+            among = h;
+            left = e .cost .charge;
+            entry = e .entry ∙ ap (λ (z : Cost). reached (cost (e .cost .charge) (z .steps))) k;
+            sum = ap (λ (z : Cost). z .charge) k;
+          },
+          refl,
+        )
+
     -- And the other way round.
     pub arrives-completes : (ls : List ℕ) → ArrivesAt g s x c ls → Completes s d x c
-    arrives-completes ls a = at (corner-path g s Valid (r .laws) ls x (c .charge) ok (a .0))
-      where
-        -- The price and the entry of the corner come to no more than the path and to no less than the lower bound, and these two are c.
-        at : CornerPath g s x ls (c .charge) → Completes s d x c
-        at b =
-            let n = corner-path-length g s x ls (c .charge) b in
-            let e = corner-entry x (b .corner) (b .path) ok (b .among) (b .is-path) in
-            let price = s .price x (b .corner) in
-            let high =
-            cost-trans (raised price (e .cost)) (raised price (costOf (b .path))) c
-            (raised-mono price (e .cost) (costOf (b .path)) (e .within)) (inr (omega arith)) in
-            let k = cost-antisymm (raised price (e .cost)) c high (bound (b .corner) (b .among) (e .cost) (e .entry)) in
-            record {
-              corner = b .corner;
-              among = b .among;
-              left = e .cost .charge;
-              entry = e .entry ∙ ap (λ (z : Cost). reached (cost (e .cost .charge) (z .steps))) k;
-              sum = ap (λ (z : Cost). z .charge) k;
-            }
+    arrives-completes ls a =
+        let b = corner-path g s Valid (r .laws) ls x (c .charge) ok (a .0) in
+        let n = corner-path-length g s x ls (c .charge) b in
+        let whole = raised (s .price x (b .corner)) (costOf (b .path)) in
+        completes-path (b .corner) (b .path) (b .among) (b .is-path) (cost-same whole c (sym (b .priced)) (n ∙ a .1)) .0
 
   -- A state with steps to come.
   module _ (x : s .State) (C n : ℕ) (ok : Valid x) (bound : LowerBound s d x (cost C (suc n))) where
@@ -143,6 +152,19 @@ module _ {g : Graph} {s : System} {Valid : s .State → Type 0} {d : ℕ → Ent
         at a p =
             less a p
             (bound-path x (cost C (suc n)) ok bound (a .corner) (a .edge ∷ p .path) (a .among) (a .leaves, rw (a .leads) (p .is-path)))
+
+    -- If the rest can be completed after a step, at corner i, it can before the step, at the corner from which i has its price.
+    pub completes-before :
+        (y : s .State) (l : ℕ) → s .step l x ≡ some y → (t : Completes s d y (cost C n)) → (o : Predecessor g s x l y (t .corner))
+        → (u : Completes s d x (cost C (suc n))) × (u .corner ≡ o .corner)
+    completes-before y l e t o =
+        let valid = r .laws .valid x y l ok e in
+        let inside = r .laws .inside y (t .corner) valid (t .among) in
+        let p = r .exact .least (s .node y (t .corner)) (cost (t .left) n) inside (t .entry) .attained in
+        let path = o .edge ∷ p .path in
+        let whole = raised (s .price x (o .corner)) (costOf path) in
+        completes-path x (cost C (suc n)) ok bound (o .corner) path (o .among) (o .leaves, rw (o .leads) (p .is-path))
+        (cost-same whole (cost C (suc n)) (omega (arith, o .priced, t .sum, p .charged)) (omega (arith, p .counted)))
 
     -- What labels that arrive at the cost do after the first of them.
     record Rest (l : ℕ) (ls : List ℕ) : Type 0 where

@@ -10,12 +10,9 @@ use Prim.Native.Nat.{ℕ, suc, _+_, _≤_, _<_}
 use native.Mathlib.Decide.{decLe}
 use native.Mathlib.Omega.{arith}
 use lib.ListN.{length, length-map}
-<<<<<<< HEAD
 use Rattle.semantics.specs.Order.{Cost, cost, _≼_, First}
 use Rattle.semantics.specs.Graph.Path.{Edge, Graph, IsPath, labelsOf, costOf, HasCost, Entry, reached, LeastCosts}
 use Rattle.semantics.specs.Paths.Cost.{cost-trans, cost-antisymm, cost-charge, cost-same}
-=======
->>>>>>> 929654507b71ee5a66d6c2eb6f7d77577d626d29
 use Rattle.semantics.specs.Paths.Distance.{EntryCost, within-cost}
 use Rattle.semantics.specs.Paths.Least.{least-within}
 use Rattle.semantics.specs.Paths.Labels.{first-cons}

@@ -1,6 +1,7 @@
 -- Dijkstra's order. Nodes are settled one by one, by charge, then steps, then number, and the edges of each are relaxed once, when it is settled.
 -- Assumes nothing.
 use mathlib.Core.Path.{_≡_, refl, sym, ap, subst, _∙_}
+use mathlib.Core.Bool.{true≢false}
 use mathlib.Core.Logic.{_≢_, _⊎_, inl, inr}
 use Prim.Native.Nat.{ℕ, suc, _+_, _*_, _≤_, _<_}
 use native.Mathlib.Decide.{ℕ-discrete, decLt}
@@ -12,7 +13,7 @@ use Rattle.semantics.specs.Paths.Cost.{cost-trans, cost-weaken, cost-bot
 use Rattle.semantics.specs.Paths.Sound.{Lower, relaxed-kept, relaxed-loop}
 use Rattle.semantics.specs.Paths.Turned.{turned-nodes, turned-target, turned-more}
 use Rattle.semantics.specs.Paths.Explored.{RelaxedFrom, Beyond, Explored}
-use Rattle.semantics.specs.Paths.Near.{TargetWithin}
+use Rattle.semantics.specs.Paths.Near.{BestTarget, TargetWithin}
 
 -- Steps and node numbers are below this.
 abbrev pub most : ℕ
@@ -50,12 +51,11 @@ pub record IsSettled (upto : ℕ) (d : ℕ → Entry) (v : ℕ) (a : Cost) : Typ
   pub entry : d v ≡ reached a
   pub before : keyOf a v < upto
 
--- The edges of every settled node were relaxed, but for targets and for the nodes that are still in hand.
+-- The edges of every settled node were relaxed, but for the nodes that are still in hand. No target is settled.
 pub record Settling (g : Graph) (s upto : ℕ) (InHand : ℕ → Type 0) (d : ℕ → Entry) : Type 0 where
   pub costs : Costs g s d
-  pub settled :
-      (v : ℕ) (e : Edge) (a : Cost) → v < g .nodes → Leaves g v e → IsSettled upto d v a
-      → RelaxedFrom g s d v e ⊎ (Target g v ⊎ InHand v)
+  pub settled : (v : ℕ) (e : Edge) (a : Cost) → v < g .nodes → Leaves g v e → IsSettled upto d v a → RelaxedFrom g s d v e ⊎ InHand v
+  pub targets : (v : ℕ) (a : Cost) → v < g .nodes → Target g v → IsSettled upto d v a → ⊥
 
 abbrev pub None : ℕ → Type 0
 None v = ⊥
@@ -68,70 +68,94 @@ abbrev pub IsFirst : Graph → ℕ → (ℕ → Entry) → ℕ → Cost → Type
 IsFirst g upto d u c = (v : ℕ) (a : Cost) → v < g .nodes → d v ≡ reached a → upto ≤ keyOf a v → keyOf c u ≤ keyOf a v
 
 module _ {g : Graph} {s upto : ℕ} {d : ℕ → Entry} (small : g .nodes ≤ most) (ok : Settling g s upto None d) where
-  settled-edge :
-      (v : ℕ) (e : Edge) (a : Cost) → v < g .nodes → Leaves g v e → IsSettled upto d v a → RelaxedFrom g s d v e ⊎ Target g v
+  settled-edge : (v : ℕ) (e : Edge) (a : Cost) → v < g .nodes → Leaves g v e → IsSettled upto d v a → RelaxedFrom g s d v e
   settled-edge v e a h l k = at (ok .settled v e a h l k)
     where
-      at : RelaxedFrom g s d v e ⊎ (Target g v ⊎ ⊥) → RelaxedFrom g s d v e ⊎ Target g v
-      at (inl x) = inl x
-      at (inr (inl x)) = inr x
-      at (inr (inr x)) = absurd x
+      at : RelaxedFrom g s d v e ⊎ ⊥ → RelaxedFrom g s d v e
+      at (inl x) = x
+      at (inr x) = absurd x
 
-  -- The first node that is not settled is settled, and its edges are in hand.
-  pub settle-first : (u : ℕ) (c : Cost) → u < g .nodes → IsFirst g upto d u c → Settling g s (suc (keyOf c u)) (Only u) d
-  settle-first u c inside first = record { costs = ok .costs; settled = λ v e a h l k. at v e a h l k (ℕ-discrete v u) (decLt (keyOf a v) upto) }
-    where
-      at :
-          (v : ℕ) (e : Edge) (a : Cost) → v < g .nodes → Leaves g v e → IsSettled (suc (keyOf c u)) d v a → Dec (v ≡ u) → Dec (keyOf a v < upto)
-          → RelaxedFrom g s d v e ⊎ (Target g v ⊎ (v ≡ u))
-      at v e a h l k (yes q) z = inr (inr q)
-      at v e a h l k (no ne) (yes z) = by (settled-edge v e a h l (record { entry = k .entry; before = z }))
+  module _ (u : ℕ) (c : Cost) (inside : u < g .nodes) (first : IsFirst g upto d u c) where
+    -- What is settled with u, other than u, was settled before.
+    settled-before : (v : ℕ) (a : Cost) → v < g .nodes → v ≢ u → IsSettled (suc (keyOf c u)) d v a → IsSettled upto d v a
+    settled-before v a h ne k = at (decLt (keyOf a v) upto)
+      where
+        at : Dec (keyOf a v < upto) → IsSettled upto d v a
+        at (yes z) = record { entry = k .entry; before = z }
+        at (no z) =
+            let same : keyOf a v ≡ keyOf c u = omega (arith, first v a h (k .entry) (omega arith), k .before) in
+            absurd (ne (key-node a c v u (omega arith) (omega arith) same))
+
+    -- The first node that is not settled is settled, and its edges are in hand.
+    pub settle-first : (Target g u → ⊥) → Settling g s (suc (keyOf c u)) (Only u) d
+    settle-first away = record {
+      costs = ok .costs;
+      settled = λ v e a h l k. at v e a h l k (ℕ-discrete v u);
+      targets = λ v a h t k. ok .targets v a h t (settled-before v a h (λ q. away (subst (Target g) q t)) k);
+    }
+      where
+        at :
+            (v : ℕ) (e : Edge) (a : Cost) → v < g .nodes → Leaves g v e → IsSettled (suc (keyOf c u)) d v a → Dec (v ≡ u)
+            → RelaxedFrom g s d v e ⊎ (v ≡ u)
+        at v e a h l k (yes q) = inr q
+        at v e a h l k (no ne) = inl (settled-edge v e a h l (settled-before v a h ne k))
+
+    -- If it is a target, everything was explored up to its cost, which is the best of all targets.
+    module _ (goal : Target g u) (entry : d u ≡ reached c) where
+      -- What is not settled costs no less.
+      no-less : (v : ℕ) (a : Cost) → v < g .nodes → d v ≡ reached a → upto ≤ keyOf a v → c ≼ a
+      no-less v a h q z = key-cost c a u v (omega (arith, ok .costs .few v a h q)) (omega arith) (first v a h q z)
+
+      pub target-explored : Explored g s (reached c) d
+      target-explored = record {
+        attained = ok .costs .attained;
+        start = ok .costs .start;
+        edges = λ v e a h l q. at v e a h l q (decLt (keyOf a v) upto);
+      }
         where
-          by : RelaxedFrom g s d v e ⊎ Target g v → RelaxedFrom g s d v e ⊎ (Target g v ⊎ (v ≡ u))
-          by (inl x) = inl x
-          by (inr x) = inr (inl x)
-      at v e a h l k (no ne) (no z) =
-          let low = first v a h (k .entry) (omega arith) in
-          let same : keyOf a v ≡ keyOf c u = omega (arith, low, k .before) in
-          absurd (ne (key-node a c v u (omega arith) (omega arith) same))
+          at :
+              (v : ℕ) (e : Edge) (a : Cost) → v < g .nodes → Leaves g v e → d v ≡ reached a → Dec (keyOf a v < upto)
+              → RelaxedFrom g s d v e ⊎ (Beyond (reached c) a ⊎ Target g v)
+          at v e a h l q (yes z) = inl (settled-edge v e a h l (record { entry = q; before = z }))
+          at v e a h l q (no z) = inr (inl (no-less v a h q (omega arith)))
 
-  -- With no node left to settle everything was explored.
-  pub settled-all : ((v : ℕ) (a : Cost) → v < g .nodes → d v ≡ reached a → keyOf a v < upto) → Explored g s unreached d
-  settled-all all = record {
-    attained = ok .costs .attained;
-    start = ok .costs .start;
-    edges = λ v e a h l q. at v e a (settled-edge v e a h l (record { entry = q; before = all v a h q }));
-  }
-    where
-      at : (v : ℕ) (e : Edge) (a : Cost) → RelaxedFrom g s d v e ⊎ Target g v → RelaxedFrom g s d v e ⊎ (Beyond unreached a ⊎ Target g v)
-      at v e a (inl x) = inl x
-      at v e a (inr x) = inr (inr x)
+      pub target-within : (b : Cost) → reached c ≡ reached b → TargetWithin g d b
+      target-within b q =
+          let same : c ≡ b = cc in
+          record { node = u; inside = inside; target = goal; within = rw (entry, same) (cost-both b b (omega arith) (omega arith)) }
 
-  -- If the first node that is not settled is a target, everything was explored up to its cost.
-  pub settled-target :
-      (u : ℕ) (c : Cost) → u < g .nodes → Target g u → d u ≡ reached c → IsFirst g upto d u c
-      → Explored g s (reached c) d × ((b : Cost) → reached c ≡ reached b → TargetWithin g d b)
-  settled-target u c inside goal entry first = (
-    record {
+      pub target-best : BestTarget g d (reached c)
+      target-best = record {
+        none = λ q. absurd (true≢false cc);
+        some = λ b q. let same : c ≡ b = cc in (u, inside, goal, entry ∙ ap reached same);
+        least = λ b q v a h t e.
+            let same : c ≡ b = cc in
+            subst (λ (x : Cost). x ≼ a) same (at v a h t e (decLt (keyOf a v) upto));
+      }
+        where
+          at : (v : ℕ) (a : Cost) → v < g .nodes → Target g v → d v ≡ reached a → Dec (keyOf a v < upto) → c ≼ a
+          at v a h t e (yes z) = absurd (ok .targets v a h t (record { entry = e; before = z }))
+          at v a h t e (no z) = no-less v a h e (omega arith)
+
+  -- With no node left to settle everything was explored, and no target is reached.
+  module _ (all : (v : ℕ) (a : Cost) → v < g .nodes → d v ≡ reached a → keyOf a v < upto) where
+    pub all-explored : Explored g s unreached d
+    all-explored = record {
       attained = ok .costs .attained;
       start = ok .costs .start;
-      edges = λ v e a h l q. at v e a h l q (decLt (keyOf a v) upto);
-    },
-    λ b q.
-        let same : c ≡ b = cc in
-        record { node = u; inside = inside; target = goal; within = rw (entry, same) (cost-both b b (omega arith) (omega arith)) },
-  )
-    where
-      at :
-          (v : ℕ) (e : Edge) (a : Cost) → v < g .nodes → Leaves g v e → d v ≡ reached a → Dec (keyOf a v < upto)
-          → RelaxedFrom g s d v e ⊎ (Beyond (reached c) a ⊎ Target g v)
-      at v e a h l q (yes z) = by (settled-edge v e a h l (record { entry = q; before = z }))
-        where
-          by : RelaxedFrom g s d v e ⊎ Target g v → RelaxedFrom g s d v e ⊎ (Beyond (reached c) a ⊎ Target g v)
-          by (inl x) = inl x
-          by (inr x) = inr (inr x)
-      at v e a h l q (no z) =
-          inr (inl (key-cost c a u v (omega (arith, ok .costs .few v a h q)) (omega arith) (first v a h q (omega arith))))
+      edges = λ v e a h l q. inl (settled-edge v e a h l (record { entry = q; before = all v a h q }));
+    }
+
+    pub all-best : BestTarget g d unreached
+    all-best = record {
+      none = λ q v h t. at v h t (d v) refl;
+      some = λ b q. absurd (true≢false cc);
+      least = λ b q. absurd (true≢false cc);
+    }
+      where
+        at : (v : ℕ) → v < g .nodes → Target g v → (x : Entry) → d v ≡ x → d v ≡ unreached
+        at v h t unreached q = q
+        at v h t (reached a) q = absurd (ok .targets v a h t (record { entry = q; before = all v a h q }))
 
 -- From d to d′ entries were lowered, and none of a settled node.
 pub record Lowering (g : Graph) (s upto : ℕ) (d d′ : ℕ → Entry) : Type 0 where
@@ -158,40 +182,41 @@ module _ {g : Graph} {s upto : ℕ} {d d′ : ℕ → Entry} (low : Lowering g s
       (v : ℕ) (e : Edge) (a : Cost) → v < g .nodes → IsSettled upto d v a → RelaxedFrom g s d v e → RelaxedFrom g s d′ v e
   lowering-relaxed v e a h z r = relaxed-kept (turned g s) d d′ (e .to) (turn v e) (low .lower (e .to)) (low .kept v a h z) r
 
+  -- What is settled was settled.
+  lowering-old : (v : ℕ) (a : Cost) → v < g .nodes → IsSettled upto d′ v a → IsSettled upto d v a
+  lowering-old v a h z = record { entry = low .fresh v a h z; before = z .before }
+
   -- So what was settled stays settled.
   pub lowering-settling : {InHand : ℕ → Type 0} → Settling g s upto InHand d → Settling g s upto InHand d′
-  lowering-settling {InHand} ok = record { costs = low .costs; settled = λ v e a h l z. at v e a h l z (old v a h z) }
+  lowering-settling {InHand} ok = record {
+    costs = low .costs;
+    settled = λ v e a h l z. at v e a h (lowering-old v a h z) (ok .settled v e a h l (lowering-old v a h z));
+    targets = λ v a h t z. ok .targets v a h t (lowering-old v a h z);
+  }
     where
-      old : (v : ℕ) (a : Cost) → v < g .nodes → IsSettled upto d′ v a → IsSettled upto d v a
-      old v a h z = record { entry = low .fresh v a h z; before = z .before }
-
-      at :
-          (v : ℕ) (e : Edge) (a : Cost) → v < g .nodes → Leaves g v e → IsSettled upto d′ v a → IsSettled upto d v a
-          → RelaxedFrom g s d′ v e ⊎ (Target g v ⊎ InHand v)
-      at v e a h l z k = by (ok .settled v e a h l k)
-        where
-          by : RelaxedFrom g s d v e ⊎ (Target g v ⊎ InHand v) → RelaxedFrom g s d′ v e ⊎ (Target g v ⊎ InHand v)
-          by (inl x) = inl (lowering-relaxed v e a h k x)
-          by (inr x) = inr x
+      at : (v : ℕ) (e : Edge) (a : Cost) → v < g .nodes → IsSettled upto d v a → RelaxedFrom g s d v e ⊎ InHand v → RelaxedFrom g s d′ v e ⊎ InHand v
+      at v e a h k (inl x) = inl (lowering-relaxed v e a h k x)
+      at v e a h k (inr x) = inr x
 
 -- When its edges are relaxed the node is out of hand.
 pub settle-done :
     {g : Graph} {s upto u : ℕ} {d : ℕ → Entry} → Settling g s upto (Only u) d → ((e : Edge) → Leaves g u e → RelaxedFrom g s d u e)
     → Settling g s upto None d
-settle-done {g} {s} {upto} {u} {d} ok all = record { costs = ok .costs; settled = λ v e a h l k. at v e a h l (ok .settled v e a h l k) }
+settle-done {g} {s} {upto} {u} {d} ok all = record {
+  costs = ok .costs;
+  settled = λ v e a h l k. inl (at v e l (ok .settled v e a h l k));
+  targets = ok .targets;
+}
   where
-    at :
-        (v : ℕ) (e : Edge) (a : Cost) → v < g .nodes → Leaves g v e → RelaxedFrom g s d v e ⊎ (Target g v ⊎ (v ≡ u))
-        → RelaxedFrom g s d v e ⊎ (Target g v ⊎ ⊥)
-    at v e a h l (inl x) = inl x
-    at v e a h l (inr (inl x)) = inr (inl x)
-    at v e a h l (inr (inr q)) = inl (subst (λ (x : ℕ). RelaxedFrom g s d x e) (sym q) (all e (subst (λ (x : ℕ). Leaves g x e) q l)))
+    at : (v : ℕ) (e : Edge) → Leaves g v e → RelaxedFrom g s d v e ⊎ (v ≡ u) → RelaxedFrom g s d v e
+    at v e l (inl x) = x
+    at v e l (inr q) = subst (λ (x : ℕ). RelaxedFrom g s d x e) (sym q) (all e (subst (λ (x : ℕ). Leaves g x e) q l))
 
 -- One edge e of the node u in hand, which is settled last: its cost is c.
 module _ {g : Graph} {s u : ℕ} {c : Cost} {d : ℕ → Entry} (small : g .nodes ≤ most) (k : Costs g s d) (inside : u < g .nodes) (entry : d u ≡ reached c)
     (e : Edge) (leaves : Leaves g u e) (to : e .to < g .nodes) where
   -- What it offers comes after u in the order.
-  offered-later : (v : ℕ) → keyOf c u < keyOf (along e c) v
+  pub offered-later : (v : ℕ) → keyOf c u < keyOf (along e c) v
   offered-later v = at (e .weight) refl
     where
       few : c .steps < most

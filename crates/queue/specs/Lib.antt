@@ -1,0 +1,4 @@
+-- What the contracts of the queue cite.
+pub mod Tournament
+-- Theorems:
+pub mod Tournaments

@@ -21,8 +21,14 @@ abbrev pub OwnLeaves : Players → Type 0
 OwnLeaves p = (v : ℕ) → (p .entrant v ≡ v) ⊎ (p .entrant v ≡ none)
 
 -- a has the least key of a and b; nobody is behind everybody.
-abbrev pub Before : Players → ℕ → ℕ → Type 0
-Before p a b = (b ≡ none) ⊎ ((a ≢ none) × (p .key a ≤ p .key b))
+abbrev pub Before : (ℕ → ℕ) → ℕ → ℕ → Type 0
+Before key a b = (b ≡ none) ⊎ ((a ≢ none) × (key a ≤ key b))
+
+-- a won the match between b and d.
+pub record Match (key : ℕ → ℕ) (b d a : ℕ) : Type 0 where
+  pub one : (a ≡ b) ⊎ (a ≡ d)
+  pub left : Before key a b
+  pub right : Before key a d
 
 -- Who has won at a place, if `slots` says it of each match.
 unfoldable pub winner : ℕ → Players → (ℕ → ℕ) → ℕ → ℕ
@@ -35,7 +41,7 @@ Won nodes p slots z = (c : ℕ) × (c / 2 ≡ z) × (slots z ≡ winner nodes p 
 -- The match at z is fair: one of the two has won it, and neither comes before the winner.
 pub record Fair (nodes : ℕ) (p : Players) (slots : ℕ → ℕ) (z : ℕ) : Type 0 where
   pub won : Won nodes p slots z
-  pub first : (c : ℕ) → c / 2 ≡ z → Before p (slots z) (winner nodes p slots c)
+  pub first : (c : ℕ) → c / 2 ≡ z → Before (p .key) (slots z) (winner nodes p slots c)
 
 abbrev pub AllFair : ℕ → Players → (ℕ → ℕ) → Type 0
 AllFair nodes p slots = (z : ℕ) → 1 ≤ z → z < nodes → Fair nodes p slots z

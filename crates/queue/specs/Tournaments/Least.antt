@@ -15,26 +15,26 @@ pub record Entered (nodes : ℕ) (p : Players) (v z : ℕ) : Type 0 where
   pub way : OnWay (nodes + v) z
 
 module _ (nodes : ℕ) (p : Players) (slots : ℕ → ℕ) (fair : AllFair nodes p slots) where
-  place-least : 2 ≤ nodes → (n z : ℕ) → z < n → 1 ≤ z → z < 2 * nodes → Before p (slots 1) (winner nodes p slots z)
+  place-least : 2 ≤ nodes → (n z : ℕ) → z < n → 1 ≤ z → z < 2 * nodes → Before (p .key) (slots 1) (winner nodes p slots z)
   place-least two zero z h one room = absurd (omega arith)
   place-least two (suc n) z h one room = at (decLt 1 z) (place-least two n (z / 2))
     where
       at :
-          Dec (1 < z) → (z / 2 < n → 1 ≤ z / 2 → z / 2 < 2 * nodes → Before p (slots 1) (winner nodes p slots (z / 2)))
-          → Before p (slots 1) (winner nodes p slots z)
+          Dec (1 < z) → (z / 2 < n → 1 ≤ z / 2 → z / 2 < 2 * nodes → Before (p .key) (slots 1) (winner nodes p slots (z / 2)))
+          → Before (p .key) (slots 1) (winner nodes p slots z)
       at (no k) ih =
           let e : z ≡ 1 = omega arith in
-          before-same p (slots 1) (winner nodes p slots z)
+          before-same (p .key) (slots 1) (winner nodes p slots z)
           (subst (λ (y : ℕ). winner nodes p slots y ≡ slots 1) (sym e) (winner-slot nodes p slots 1 (omega arith)))
       at (yes k) ih =
-          before-trans p (slots 1) (slots (z / 2)) (winner nodes p slots z)
-          (subst (λ (a : ℕ). Before p (slots 1) a) (winner-slot nodes p slots (z / 2) (omega arith))
+          before-trans (p .key) (slots 1) (slots (z / 2)) (winner nodes p slots z)
+          (subst (λ (a : ℕ). Before (p .key) (slots 1) a) (winner-slot nodes p slots (z / 2) (omega arith))
           (ih (omega arith) (omega arith) (omega arith)))
           (fair (z / 2) (omega arith) (omega arith) .first z refl)
 
-  pub least : 2 ≤ nodes → (v : ℕ) → v < nodes → Before p (slots 1) (p .entrant v)
+  pub least : 2 ≤ nodes → (v : ℕ) → v < nodes → Before (p .key) (slots 1) (p .entrant v)
   least two v h =
-      subst (λ (a : ℕ). Before p (slots 1) a)
+      subst (λ (a : ℕ). Before (p .key) (slots 1) a)
       (winner-leaf nodes p slots (nodes + v) (omega arith) ∙ leaf (nodes + v - nodes) (omega arith))
       (place-least two (suc (nodes + v)) (nodes + v) (omega arith) (omega arith) (omega arith))
     where
@@ -54,17 +54,19 @@ module _ (nodes : ℕ) (p : Players) (slots : ℕ → ℕ) (fair : AllFair nodes
             record {
               below = omega arith;
               plays = cc;
-              way = subst (λ (y : ℕ). OnWay (nodes + v) y) (sym there) here
+              way = subst (λ (y : ℕ). OnWay (nodes + v) y) (sym there) here;
             }
         leaf h u d q (inr o) = absurd (plays (cc))
+
         slot :
             z < nodes → (f : Fair nodes p slots z) → Entered nodes p v (f .won .0) → Entered nodes p v z
         slot h f t =
             record {
               below = t .below;
               plays = t .plays;
-              way = subst (λ (y : ℕ). OnWay (nodes + v) y) (f .won .1) (way-on (t .way))
+              way = subst (λ (y : ℕ). OnWay (nodes + v) y) (f .won .1) (way-on (t .way));
             }
+
         at :
             Dec (z < nodes)
             → ((y u : ℕ) → 2 * nodes ≤ y + n → 1 ≤ y → y < 2 * nodes → winner nodes p slots y ≡ u → u ≢ none → Entered nodes p u y)

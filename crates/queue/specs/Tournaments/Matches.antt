@@ -10,18 +10,18 @@ use native.Mathlib.Omega.{arith}
 use borrow.Author.Tests.{lt-ltb, le-ltb}
 use Rattle.queue.specs.Tournament.{none, Players, Before, winner, Won, Fair, OnWay, here, up, Put}
 
-module _ (p : Players) where
-  pub before-refl : (a : ℕ) → Before p a a
+module _ (key : ℕ → ℕ) where
+  pub before-refl : (a : ℕ) → Before key a a
   before-refl a = at (ℕ-discrete a none)
     where
-      at : Dec (a ≡ none) → Before p a a
+      at : Dec (a ≡ none) → Before key a a
       at (yes e) = inl e
-      at (no n) = inr (n, le-refl (p .key a))
+      at (no n) = inr (n, le-refl (key a))
 
-  pub before-same : (a b : ℕ) → b ≡ a → Before p a b
-  before-same a b e = subst (λ (x : ℕ). Before p a x) (sym e) (before-refl a)
+  pub before-same : (a b : ℕ) → b ≡ a → Before key a b
+  before-same a b e = subst (λ (x : ℕ). Before key a x) (sym e) (before-refl a)
 
-  pub before-trans : (a b c : ℕ) → Before p a b → Before p b c → Before p a c
+  pub before-trans : (a b c : ℕ) → Before key a b → Before key b c → Before key a c
   before-trans a b c x (inl e) = inl e
   before-trans a b c (inl e) (inr y) = absurd (y .0 e)
   before-trans a b c (inr x) (inr y) = inr (x .0, omega arith)
@@ -63,12 +63,12 @@ winner-same nodes p q s t c slot leaf = at (decLt c nodes)
 -- A match stays fair if its slot and the winners below are the same, and are in the same order.
 pub fair-same :
     (nodes : ℕ) (p q : Players) (s t : ℕ → ℕ) (z : ℕ) → t z ≡ s z → ((c : ℕ) → c / 2 ≡ z → winner nodes q t c ≡ winner nodes p s c)
-    → ((c : ℕ) → c / 2 ≡ z → Before p (s z) (winner nodes p s c) → Before q (s z) (winner nodes p s c)) → Fair nodes p s z → Fair nodes q t z
+    → ((c : ℕ) → c / 2 ≡ z → Before (p .key) (s z) (winner nodes p s c) → Before (q .key) (s z) (winner nodes p s c)) → Fair nodes p s z → Fair nodes q t z
 fair-same nodes p q s t z slot same order f =
     record {
       won = (f .won .0, f .won .1, slot ∙ f .won .2 ∙ sym (same (f .won .0) (f .won .1)));
       first =
-        λ c e. subst₂ (λ (a b : ℕ). Before q a b) (sym slot) (sym (same c e)) (order c e (f .first c e))
+          λ c e. subst₂ (λ (a b : ℕ). Before (q .key) a b) (sym slot) (sym (same c e)) (order c e (f .first c e));
     }
 
 -- All matches are fair, but for some on the way up from x.

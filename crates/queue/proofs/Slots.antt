@@ -1,0 +1,82 @@
+-- What storing a slot does, and matches by the keys in the words.
+-- Assumes nothing.
+use mathlib.Core.Path.{_≡_, refl, sym, ap, _∙_, subst}
+use mathlib.Core.Logic.{_⊎_, inl, inr, _≢_, ⊎-elim}
+use mathlib.Core.List.{List}
+use Prim.Native.Nat.{ℕ, _+_, _*_, _/_, _%_, _≤_, _<_}
+use native.Mathlib.Decide.{ℕ-discrete}
+use native.Mathlib.Omega.{arith}
+use lib.ListN.{length, length-set}
+use lib.Seq.{getD-set-same, getD-set-other}
+use Rattle.semantics.specs.Path.{chargeAt, stepsAt}
+use Rattle.queue.specs.Tournament.{none, Before, Match, Put}
+use Rattle.queue.specs.Tournaments.Matches.{before-refl}
+use Rattle.queue.specs.Queue.{lows, slotAt, keyOf, key, Sound}
+use Rattle.queue.specs.Playing.{keyIn, Seat, put}
+use Rattle.queue.specs.Laws.Lows.{lows-charge, lows-steps, lows-same}
+
+-- Who has won a match.
+pub match-left : (keys : ℕ → ℕ) (a b : ℕ) → Before keys a b → Match keys a b a
+match-left keys a b h = record { one = inl refl; left = before-refl keys a; right = h }
+
+pub match-right : (keys : ℕ → ℕ) (a b : ℕ) → Before keys b a → Match keys a b b
+match-right keys a b h = record { one = inr refl; left = h; right = before-refl keys b }
+
+-- A player that is not nobody has words.
+pub seat-words : (ws : List ℕ) (a : ℕ) → Seat ws a → a ≢ none → (a < none) × (2 * a + 1 < length ws)
+seat-words ws a (inl e) n = absurd (n e)
+seat-words ws a (inr h) n = h
+
+-- a is nobody, or one of the nodes.
+abbrev pub Seated : ℕ → ℕ → Type 0
+Seated nodes a = (a ≡ none) ⊎ (a < nodes)
+
+module _ (nodes : ℕ) (ws : List ℕ) (sound : Sound nodes ws) where
+  pub seat : (a : ℕ) → Seated nodes a → Seat ws a
+  seat a (inl e) = inl e
+  seat a (inr h) = inr (omega arith, omega arith)
+
+  module _ (x b : ℕ) (h : x < nodes) where
+    pub put-puts : Put (slotAt ws) x b (slotAt (put ws x b))
+    put-puts =
+        record {
+          at-x =
+              ap (λ (y : ℕ). y / 65536) (getD-set-same ws (2 * x + 1) (b * 65536 + stepsAt ws x % 65536) 0 (omega arith)) ∙ omega arith;
+          others =
+              λ z n. ap (λ (y : ℕ). y / 65536)
+              (getD-set-other ws (2 * x + 1) (2 * z + 1) (b * 65536 + stepsAt ws x % 65536) 0 (omega arith));
+        }
+
+    pub put-lows : lows nodes (put ws x b) ≡ lows nodes ws
+    put-lows = lows-same nodes ws x (b * 65536 + stepsAt ws x % 65536) h (omega arith)
+
+    pub put-sound : Seated nodes b → Sound nodes (put ws x b)
+    put-sound s =
+        record {
+          two = sound .two;
+          few = sound .few;
+          room = omega (arith, length-set ws (2 * x + 1) (b * 65536 + stepsAt ws x % 65536));
+          slots = λ z o k. at z o k (ℕ-discrete z x);
+        }
+      where
+        at : (z : ℕ) → 1 ≤ z → z < nodes → Dec (z ≡ x) → Seated nodes (slotAt (put ws x b) z)
+        at z o k (yes e) =
+            subst (λ (a : ℕ). Seated nodes a) (sym (subst (λ (y : ℕ). slotAt (put ws x b) y ≡ b) (sym e) (put-puts .at-x))) s
+        at z o k (no n) = subst (λ (a : ℕ). Seated nodes a) (sym (put-puts .others z n)) (sound .slots z o k)
+
+  pub key-lows : (v : ℕ) → v < nodes → key (lows nodes ws) v ≡ keyIn ws v
+  key-lows v h = rw (lows-charge nodes ws v, lows-steps nodes ws v h)
+
+  -- Two nodes are in the order of their keys in the words.
+  before-lows : (a b : ℕ) → Seated nodes a → Seated nodes b → Before (λ v. keyIn ws v) a b → Before (λ v. key (lows nodes ws) v) a b
+  before-lows a b s t (inl e) = inl e
+  before-lows a b s (inl e) (inr h) = inl e
+  before-lows a b (inl e) (inr k) (inr h) = absurd (h .0 e)
+  before-lows a b (inr j) (inr k) (inr h) = inr (h .0, omega (arith, h .1, key-lows a j, key-lows b k))
+
+  pub match-lows :
+      (a b r : ℕ) → Seated nodes a → Seated nodes b → Match (λ v. keyIn ws v) a b r → Match (λ v. key (lows nodes ws) v) a b r
+  match-lows a b r s t m =
+      let w : Seated nodes r =
+      ⊎-elim (λ e. subst (λ (x : ℕ). Seated nodes x) (sym e) s) (λ e. subst (λ (x : ℕ). Seated nodes x) (sym e) t) (m .one) in
+      record { one = m .one; left = before-lows r a w s (m .left); right = before-lows r b w t (m .right) }

@@ -1,0 +1,5 @@
+-- What a caller may conclude from the contracts.
+pub mod Lows
+pub mod Pendings
+pub mod First
+pub mod Changes

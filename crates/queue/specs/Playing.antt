@@ -1,0 +1,37 @@
+-- What the private functions of the queue ask and do.
+-- Assumes nothing.
+use mathlib.Core.Path.{_≡_}
+use mathlib.Core.Logic.{_⊎_}
+use mathlib.Core.List.{List}
+use Prim.Native.Nat.{ℕ, suc, _+_, _*_, _/_, _%_, _≤_, _<_}
+use lib.ListN.{length, set}
+use Rattle.semantics.specs.Path.{chargeAt, stepsAt}
+use Rattle.queue.specs.Tournament.{none, AllFair, winner}
+use Rattle.queue.specs.Tournaments.Raising.{Raising}
+use Rattle.queue.specs.Queue.{lows, slotAt, keyOf, players, Sound}
+
+-- The key of a node, with its slot left out.
+abbrev pub keyIn : List ℕ → ℕ → ℕ
+keyIn ws v = keyOf (chargeAt ws v) (stepsAt ws v % 65536) v
+
+-- a is nobody, or a node that has words.
+abbrev pub Seat : List ℕ → ℕ → Type 0
+Seat ws a = (a ≡ none) ⊎ ((a < none) × (2 * a + 1 < length ws))
+
+-- The words with b in slot x.
+abbrev pub put : List ℕ → ℕ → ℕ → List ℕ
+put ws x b = set ws (2 * x + 1) (b * 65536 + stepsAt ws x % 65536)
+
+-- A place of the tree below slot 1.
+pub record Place (nodes place : ℕ) (ws : List ℕ) : Type 0 where
+  pub sound : Sound nodes ws
+  pub low : 1 ≤ place
+  pub high : place < 2 * nodes
+
+-- What raising a node does: the costs stay, and once only v could be out of place all matches are fair.
+pub record GoneUp (nodes node : ℕ) (ws ws′ : List ℕ) : Type 0 where
+  pub costs : lows nodes ws′ ≡ lows nodes ws
+  pub sound : Sound nodes ws′
+  pub fair :
+      (upto : ℕ) → Raising nodes (players upto (lows nodes ws)) (slotAt ws) node ((nodes + node) / 2)
+      → AllFair nodes (players upto (lows nodes ws)) (slotAt ws′)

@@ -1,0 +1,80 @@
+-- The priority queue of a search: a tournament of its nodes, kept in the words of the search. Node v has its charge at word 2v and, in word 2v + 1,
+-- its steps in the low 16 bits; the high 16 bits of word 2x + 1 are slot x of the tournament.
+-- Assumes nothing.
+use mathlib.Core.Path.{_≡_}
+use mathlib.Core.Bool.{Bool, false, cond}
+use mathlib.Core.Logic.{_⊎_, _≢_}
+use mathlib.Core.List.{List, [], _∷_}
+use Prim.Native.Nat.{ℕ, zero, suc, _+_, _*_, _/_, _%_, _≤_, _<_}
+use lib.Dec.{eqb, leb}
+use lib.ListN.{length, getD}
+use Rattle.semantics.specs.Path.{cost, _≺_, infinity, chargeAt, stepsAt}
+use Rattle.semantics.specs.Paths.Words.{stored}
+use Rattle.queue.specs.Tournament.{none, Players, AllFair}
+
+-- The words of the first n nodes without their slots: a table of costs.
+unfoldable pub lows : ℕ → List ℕ → List ℕ
+lows zero ws = ws
+lows (suc n) [] = []
+lows (suc n) (c ∷ []) = c ∷ []
+lows (suc n) (c ∷ k ∷ ws) = c ∷ k % 65536 ∷ lows n ws
+
+-- Slot x.
+abbrev pub slotAt : List ℕ → ℕ → ℕ
+slotAt ws x = getD ws (2 * x + 1) 0 / 65536
+
+-- Nodes are settled by charge, then by steps, then by their numbers: by one number.
+abbrev pub keyOf : ℕ → ℕ → ℕ → ℕ
+keyOf charge steps v = (charge * 65536 + steps) * 65536 + v
+
+abbrev pub key : List ℕ → ℕ → ℕ
+key ts v = keyOf (chargeAt ts v) (stepsAt ts v) v
+
+-- All keys below upto are settled. A node is pending if it is reached and not settled:
+abbrev pub Pending : ℕ → List ℕ → ℕ → Type 0
+Pending upto ts v = (chargeAt ts v ≢ infinity) × (upto ≤ key ts v)
+
+-- and as a test.
+unfoldable pub pends : ℕ → List ℕ → ℕ → Bool
+pends upto ts v = cond (eqb (chargeAt ts v) infinity) false (leb upto (key ts v))
+
+-- The pending nodes play, by their keys.
+abbrev pub players : ℕ → List ℕ → Players
+players upto ts = record { entrant = λ v. cond (pends upto ts v) v none; key = λ v. key ts v }
+
+-- The words have room for the nodes, and each slot holds a node or nobody.
+pub record Sound (nodes : ℕ) (ws : List ℕ) : Type 0 where
+  pub two : 2 ≤ nodes
+  pub few : nodes ≤ none
+  pub room : 2 * nodes ≤ length ws
+  pub slots : (z : ℕ) → 1 ≤ z → z < nodes → (slotAt ws z ≡ none) ⊎ (slotAt ws z < nodes)
+
+-- The words hold the queue of the nodes that are pending.
+pub record Queue (nodes upto : ℕ) (ws : List ℕ) : Type 0 where
+  pub sound : Sound nodes ws
+  pub fair : AllFair nodes (players upto (lows nodes ws)) (slotAt ws)
+
+-- What `lower` asks: a cost that is less than the node's.
+pub record Lowering (nodes node charge steps : ℕ) (ws : List ℕ) : Type 0 where
+  pub sound : Sound nodes ws
+  pub there : node < nodes
+  pub fits : steps < 65536
+  pub known : charge ≢ infinity
+  pub less : cost charge steps ≺ cost (chargeAt (lows nodes ws) node) (stepsAt (lows nodes ws) node)
+
+-- What it does: the cost is stored, and if the node is not settled by it the queue is one again.
+pub record Lowered (nodes node charge steps : ℕ) (ws ws′ : List ℕ) : Type 0 where
+  pub costs : lows nodes ws′ ≡ stored (lows nodes ws) node (cost charge steps)
+  pub queue : (upto : ℕ) → Queue nodes upto ws → upto ≤ keyOf charge steps node → Queue nodes upto ws′
+
+-- What `settle` asks: the node is the first of a queue.
+pub record Settling (nodes node : ℕ) (ws : List ℕ) : Type 0 where
+  pub upto : ℕ
+  pub queue : Queue nodes upto ws
+  pub first : slotAt ws 1 ≡ node
+  pub there : node < nodes
+
+-- What it does: the costs stay, and the node is settled with all keys up to its own.
+pub record Settled (nodes node : ℕ) (ws ws′ : List ℕ) : Type 0 where
+  pub costs : lows nodes ws′ ≡ lows nodes ws
+  pub queue : Queue nodes (suc (key (lows nodes ws) node)) ws′

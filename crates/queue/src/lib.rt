@@ -1,0 +1,145 @@
+// The priority queue of a search in Dijkstra's order: a tournament of the nodes that are pending, kept in the spare halves of the words of the search.
+// Node v has its charge at word 2v and, in word 2v + 1, its steps in the low half; the high half of word 2x + 1 is slot x of the tournament.
+ghost use mathlib.Core.Path.{_≡_};
+ghost use Prim.Native.Nat.{suc, _+_, _*_, _%_, _≤_, _<_};
+ghost use lib.ListN.{length};
+ghost use Rattle.semantics.specs.Path.{chargeAt, stepsAt};
+ghost use Rattle.queue.specs.Tournament.{none, Match, winner};
+ghost use Rattle.queue.specs.Queue.{lows, slotAt, players, Sound, Lowering, Lowered, Settling, Settled};
+ghost use Rattle.queue.specs.Playing.{keyIn, Seat, put, Place, GoneUp};
+
+// Nobody: what a slot holds if no node below it is pending.
+pub const NONE: usize = 0xFFFF;
+
+// The charge of an unreached node.
+const INFINITY: u32 = 0xFFFF_FFFF;
+
+// The high half of a word counts this much.
+const HALF: u32 = 0x1_0000;
+
+// The charge of a node.
+pub fn charge_of(words: &[u32], node: usize) -> u32
+    requires { ⌜ 2 * node + 1 < length (now words) ⌝ }
+    ensures { λ r. ⌜ r ≡ chargeAt (now (words .entry)) node ⌝ }
+{
+    words[2 * node]
+}
+
+// Its steps.
+pub fn steps_of(words: &[u32], node: usize) -> u32
+    requires { ⌜ 2 * node + 1 < length (now words) ⌝ }
+    ensures { λ r. ⌜ r ≡ stepsAt (now (words .entry)) node % 65536 ⌝ }
+{
+    words[2 * node + 1] % HALF
+}
+
+// What a node is compared by.
+fn key(words: &[u32], node: usize) -> u64
+    requires { ⌜ (node < none) × (2 * node + 1 < length (now words)) ⌝ }
+    ensures { λ r. ⌜ r ≡ keyIn (now (words .entry)) node ⌝ }
+{
+    let charge = charge_of(words, node) as u64;
+    let steps = steps_of(words, node) as u64;
+    (charge * 65536 + steps) * 65536 + node as u64
+}
+
+// A slot of the tournament.
+fn slot(words: &[u32], place: usize) -> usize
+    requires { ⌜ 2 * place + 1 < length (now words) ⌝ }
+    ensures { λ r. ⌜ r ≡ slotAt (now (words .entry)) place ⌝ }
+{
+    (words[2 * place + 1] / HALF) as usize
+}
+
+fn set_slot(words: &mut [u32], place: usize, node: usize)
+    requires { ⌜ (2 * place + 1 < length (now words)) × (node ≤ none) ⌝ }
+    ensures { λ _. ⌜ now (words .exit) ≡ put (now (words .entry)) place node ⌝ }
+{
+    words[2 * place + 1] = node as u32 * HALF + words[2 * place + 1] % HALF;
+}
+
+// The first of the pending nodes, or NONE.
+pub fn first(words: &[u32]) -> usize
+    requires { ⌜ 3 < length (now words) ⌝ }
+    ensures { λ r. ⌜ r ≡ slotAt (now (words .entry)) 1 ⌝ }
+{
+    slot(words, 1)
+}
+
+// The winner of a match.
+fn play(words: &[u32], a: usize, b: usize) -> usize
+    requires { ⌜ Seat (now words) a × Seat (now words) b ⌝ }
+    ensures { λ r. ⌜ Match (λ v. keyIn (now (words .entry)) v) a b r ⌝ }
+{
+    if a == NONE {
+        return b;
+    }
+    if b == NONE {
+        return a;
+    }
+    if key(words, b) < key(words, a) { b } else { a }
+}
+
+// The winner at a place, if all keys up to `settled` are settled.
+fn winner(words: &[u32], nodes: usize, place: usize, settled: u64) -> usize
+    requires { ⌜ Place nodes place (now words) ⌝ }
+    ensures { λ r. ⌜ r ≡ winner nodes (players (suc settled) (lows nodes (now (words .entry)))) (slotAt (now (words .entry))) place ⌝ }
+{
+    if place < nodes {
+        return slot(words, place);
+    }
+    let node = place - nodes;
+    if charge_of(words, node) == INFINITY {
+        return NONE;
+    }
+    if settled < key(words, node) {
+        node
+    } else {
+        NONE
+    }
+}
+
+// A node goes up from its leaf as far as it wins.
+fn raise(words: &mut [u32], nodes: usize, node: usize)
+    requires { ⌜ Sound nodes (now words) × (node < nodes) ⌝ }
+    ensures { λ _. ⌜ GoneUp nodes node (now (words .entry)) (now (words .exit)) ⌝ }
+{
+    let mut place = (nodes + node) / 2;
+    while 0 < place {
+        let other = slot(words, place);
+        if play(words, node, other) != node {
+            return;
+        }
+        set_slot(words, place, node);
+        place /= 2;
+    }
+}
+
+// A node gets a cost that is less than its own.
+pub fn lower(words: &mut [u32], nodes: usize, node: usize, charge: u32, steps: u32)
+    requires { ⌜ Lowering nodes node charge steps (now words) ⌝ }
+    ensures { λ _. ⌜ Lowered nodes node charge steps (now (words .entry)) (now (words .exit)) ⌝ }
+{
+    let high = words[2 * node + 1] / HALF;
+    words[2 * node] = charge;
+    words[2 * node + 1] = high * HALF + steps;
+    raise(words, nodes, node);
+}
+
+// The first of the pending nodes is settled: the matches on the way up from its leaf are played again without it.
+pub fn settle(words: &mut [u32], nodes: usize, node: usize)
+    requires { ⌜ Settling nodes node (now words) ⌝ }
+    ensures { λ _. ⌜ Settled nodes node (now (words .entry)) (now (words .exit)) ⌝ }
+{
+    let settled = key(words, node);
+    let mut place = nodes + node;
+    let mut best = NONE;
+    while 1 < place {
+        let up = place / 2;
+        // The two places below `up` are 2 × up and 2 × up + 1.
+        let other = winner(words, nodes, 4 * up + 1 - place, settled);
+        best = play(words, best, other);
+        set_slot(words, up, best);
+        place = up;
+    }
+}

@@ -4,9 +4,9 @@
 use mathlib.Core.Path.{_≡_, refl, sym, ap, subst, subst₂, _∙_}
 use mathlib.Core.Bool.{true, false}
 use mathlib.Core.Logic.{_↔_, _⊎_, inl, inr}
-use mathlib.Core.List.{List, [], _∷_, List·Memᴰ, List·Memᴰ·head, List·Memᴰ·tail, List·Memᴰ·not-nil, List·Memᴰ·cases-cons, List·Memᴰ·eq-of-singleton}
+use mathlib.Core.List.{List·Memᴰ, List·Memᴰ·head, List·Memᴰ·eq-of-singleton}
 use mathlib.Core.Option.{some}
-use Prim.Native.Nat.{ℕ, zero, suc, _+_, _≤_, _<_}
+use Prim.Native.Nat.{ℕ, suc, _+_, _<_}
 use native.Mathlib.Omega.{arith}
 use lib.ListN.{length}
 use Rattle.semantics.specs.Automaton.{Automaton, Proper, moveAt}
@@ -38,6 +38,17 @@ module _ (a : Automaton) (p : Place) where
 
   pub delayed-same : {byte : ℕ} {z : Place} → Stepped a p byte z → byte ≡ 64 → SamePlace z (delayedTo p)
   delayed-same {byte} {z} s e = subst (λ (q : Place). SamePlace q (delayedTo p)) (sym (after-step a p s e .1)) (after-same a p)
+
+-- Places of one shape have the same tight edges.
+pub led-alike :
+    (a : Automaton) (l : ℕ) (d : ℕ → Entry) (n : ℕ) (S : ℕ → Type 0) (k : ℕ) (p q z y : Place) → SamePlace p q → SamePlace z y → (i : ℕ)
+    → Led a l d p n S k z i → Led a l d q n S k y i
+led-alike a l d n S k p q z y e f i t = record {
+  there = rw (f .region .corners) at (t .there);
+  corner = t .corner;
+  marked = t .marked;
+  tight = subst₂ (Tight (cornerGraph a l) d n k) (number-alike a p q e (t .corner)) (number-alike a z y f i) (t .tight);
+}
 
 -- No edge from a node to itself is tight.
 grows-on : (d : ℕ → Entry) (n weight v : ℕ) → Grows d n weight v v → ⊥

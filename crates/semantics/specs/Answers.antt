@@ -24,6 +24,7 @@ pub mod Walk
 -- The same by sets of corners, with no prices.
 pub mod Marks
 pub mod Led
+pub mod LedWaits
 pub mod Trail
 -- The answer that antt computes.
 pub mod Computed

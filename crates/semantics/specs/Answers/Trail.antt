@@ -98,6 +98,10 @@ module _ (a : Automaton) (ok : Proper a) (l : ℕ) (B : Cost) (best : distance (
       shape : SamePlace (t .place) q
       shape = number-shape a (t .place) q here-place held (here .first ∙ sym first)
 
+      -- Its marked corners are corners.
+      pub trail-among : (j : ℕ) → sets (length ks) j → j < length (q .region .prices)
+      trail-among j x = rw (shape .region .corners) at (here .marks .among j x)
+
       -- In the goal the steps are the route.
       pub trail-ends : q .mode ≡ l → (answer a l ≡ route (B .charge) ks) × (length ks ≡ B .steps)
       trail-ends e = walk-ends a ok l B best (t .walk) (shape .mode ∙ e)

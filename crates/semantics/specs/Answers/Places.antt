@@ -92,6 +92,14 @@ module _ (a : Automaton) where
       };
     }
 
+  -- Places go by their shape.
+  pub place-alike : (p s : Place) → SamePlace p s → IsPlace a p → IsPlace a s
+  place-alike p s e h = record {
+    well-formed = shape-well-formed _ _ (e .region) (h .well-formed);
+    cell = rw (← e .region .whole) (h .cell);
+    in-modes = rw (← e .mode) (h .in-modes);
+  }
+
   -- Places with the same first node have one shape.
   pub number-shape : (p s : Place) → IsPlace a p → IsPlace a s → numberOf a p 0 ≡ numberOf a s 0 → SamePlace p s
   number-shape p s h k e =

@@ -15,13 +15,14 @@ use Rattle.semantics.specs.Automaton.{Automaton, Proper}
 use Rattle.semantics.specs.Path.{Cost, cost, Entry, reached}
 use Rattle.semantics.specs.Distance.{distance}
 use Rattle.semantics.specs.Chain.{Place, step, follow, begin, chain}
+use Rattle.semantics.specs.Node.{nodeOf, nodeAt}
 use Rattle.semantics.specs.Answer.{route, answer}
 use Rattle.semantics.specs.CornerPath.{SamePlace}
-use Rattle.semantics.specs.CornerGraph.{numberOf, startNode, cornerGraph}
+use Rattle.semantics.specs.CornerGraph.{nodePlace, numberOf, startNode, cornerGraph}
 use Rattle.semantics.specs.Bounds.Prices.{price}
 use Rattle.semantics.specs.Bounds.Reached.{chain-reached}
 use Rattle.semantics.specs.Bounds.Steps.{chain-take}
-use Rattle.semantics.specs.Answers.Places.{IsPlace, corner-top, reached-place, number-shape}
+use Rattle.semantics.specs.Answers.Places.{IsPlace, corner-top, reached-place, number-node, node-same, place-alike, number-shape}
 use Rattle.semantics.specs.Answers.Graph.{same-sym, number-alike, step-shape}
 use Rattle.semantics.specs.Answers.Moving.{number-row}
 use Rattle.semantics.specs.Answers.Forward.{corner-inside}
@@ -92,6 +93,20 @@ module _ (a : Automaton) (ok : Proper a) (l : ℕ) (B : Cost) (best : distance (
 
     here : Footing a l d (t .place) (length ks) (firsts (length ks)) (sets (length ks))
     here = t .footing (length ks) (t .place) (omega arith) (ap (chain a) (take-length ks) ∙ t .walk .ends)
+
+    -- The place of the node at hand is one that has this first node.
+    pub trail-node :
+        IsPlace a (nodePlace (nodeAt (a .ceilings) (firsts (length ks))))
+        × (numberOf a (nodePlace (nodeAt (a .ceilings) (firsts (length ks)))) 0 ≡ firsts (length ks))
+    trail-node =
+        let x = t .place in
+        let inside = here-place .well-formed .priced in
+        let y = nodePlace (nodeOf (x .mode) (x .region) 0) in
+        let same = node-same a x here-place 0 inside in
+        let e : nodePlace (nodeAt (a .ceilings) (firsts (length ks))) ≡ y =
+        ap nodePlace (ap (nodeAt (a .ceilings)) (sym (here .first)) ∙ number-node a x here-place 0 inside) in
+        subst (λ (q : Place). IsPlace a q × (numberOf a q 0 ≡ firsts (length ks))) (sym e)
+        (place-alike a x y (same-sym y x same) here-place, number-alike a y x same 0 ∙ here .first)
 
     -- The place q has the first node of the place at hand.
     module _ (q : Place) (held : IsPlace a q) (first : numberOf a q 0 ≡ firsts (length ks)) where

@@ -8,7 +8,7 @@ use native.Mathlib.Decide.{ℕ-discrete}
 use native.Mathlib.Omega.{arith}
 use lib.ListN.{length, length-set}
 use lib.Seq.{getD-set-same, getD-set-other}
-use Rattle.semantics.specs.Path.{chargeAt, stepsAt}
+use Rattle.semantics.specs.Graph.Path.{chargeAt, stepsAt}
 use Rattle.queue.specs.Tournament.{none, Before, Match, Put}
 use Rattle.queue.specs.Tournaments.Matches.{before-refl}
 use Rattle.queue.specs.Queue.{lows, slotAt, keyOf, key, Sound}

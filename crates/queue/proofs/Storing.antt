@@ -8,7 +8,7 @@ use native.Mathlib.Decide.{ℕ-discrete}
 use native.Mathlib.Omega.{arith}
 use lib.ListN.{length, set, length-set}
 use lib.Seq.{getD-set-same, getD-set-other}
-use Rattle.semantics.specs.Path.{cost}
+use Rattle.semantics.specs.Order.{cost}
 use Rattle.semantics.specs.Paths.Words.{stored}
 use Rattle.queue.specs.Tournament.{none, AllFair}
 use Rattle.queue.specs.Tournaments.Raising.{raise-start}

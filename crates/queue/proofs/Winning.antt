@@ -6,7 +6,7 @@ use mathlib.Core.List.{List}
 use Prim.Native.Nat.{ℕ, suc, _+_, _*_, _-_, _≤_, _<_}
 use native.Mathlib.Decide.{decLt}
 use native.Mathlib.Omega.{arith}
-use Rattle.semantics.specs.Path.{infinity, chargeAt}
+use Rattle.semantics.specs.Graph.Path.{infinity, chargeAt}
 use Rattle.queue.specs.Tournament.{none, winner}
 use Rattle.queue.specs.Tournaments.Matches.{winner-slot, winner-leaf}
 use Rattle.queue.specs.Queue.{lows, slotAt, key, players, Sound}

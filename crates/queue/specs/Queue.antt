@@ -8,7 +8,8 @@ use mathlib.Core.List.{List, [], _∷_}
 use Prim.Native.Nat.{ℕ, zero, suc, _+_, _*_, _/_, _%_, _≤_, _<_}
 use lib.Dec.{eqb, leb}
 use lib.ListN.{length, getD}
-use Rattle.semantics.specs.Path.{cost, _≺_, infinity, chargeAt, stepsAt}
+use Rattle.semantics.specs.Order.{cost, _≺_}
+use Rattle.semantics.specs.Graph.Path.{infinity, chargeAt, stepsAt}
 use Rattle.semantics.specs.Paths.Words.{stored}
 use Rattle.queue.specs.Tournament.{none, Players, AllFair}
 

@@ -3,7 +3,7 @@
 ghost use mathlib.Core.Path.{_≡_};
 ghost use Prim.Native.Nat.{suc, _+_, _*_, _%_, _≤_, _<_};
 ghost use lib.ListN.{length};
-ghost use Rattle.semantics.specs.Path.{chargeAt, stepsAt};
+ghost use Rattle.semantics.specs.Graph.Path.{chargeAt, stepsAt};
 ghost use Rattle.queue.specs.Tournament.{none, Match, winner};
 ghost use Rattle.queue.specs.Queue.{lows, slotAt, players, Sound, Lowering, Lowered, Settling, Settled};
 ghost use Rattle.queue.specs.Playing.{keyIn, Seat, put, Place, GoneUp};

@@ -21,8 +21,10 @@ pub mod Table
 pub mod Forward
 pub mod Onward
 pub mod Walk
+-- The same by sets of corners, with no prices.
 pub mod Marks
-pub mod Trail
 pub mod Led
+pub mod LedWaits
+pub mod Trail
 -- The answer that antt computes.
 pub mod Computed

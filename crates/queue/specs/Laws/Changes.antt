@@ -8,7 +8,8 @@ use Prim.Native.Nat.{ℕ, suc, _+_, _*_, _≤_, _<_}
 use native.Mathlib.Decide.{ℕ-discrete}
 use native.Mathlib.Omega.{arith}
 use lib.ListN.{length}
-use Rattle.semantics.specs.Path.{cost, _≺_, infinity, chargeAt, stepsAt}
+use Rattle.semantics.specs.Order.{cost, _≺_}
+use Rattle.semantics.specs.Graph.Path.{infinity, chargeAt, stepsAt}
 use Rattle.semantics.specs.Paths.Words.{stored, stored-charge, stored-steps, other-charge, other-steps}
 use Rattle.queue.specs.Tournament.{none, Before}
 use Rattle.queue.specs.Tournaments.Raising.{Raised}

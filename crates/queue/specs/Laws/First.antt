@@ -7,7 +7,7 @@ use Prim.Native.Nat.{ℕ, suc, _+_, _*_, _-_, _/_, _≤_, _<_}
 use native.Mathlib.Decide.{decLt}
 use native.Mathlib.Omega.{arith}
 use lib.ListN.{length, getD, replicate, length-append, length-replicate, getD-replicate, List·getD-append}
-use Rattle.semantics.specs.Path.{infinity, chargeAt}
+use Rattle.semantics.specs.Graph.Path.{infinity, chargeAt}
 use Rattle.queue.specs.Tournament.{none, Players, Before, winner, Fair}
 use Rattle.queue.specs.Tournaments.Matches.{winner-slot, winner-leaf}
 use Rattle.queue.specs.Tournaments.Least.{least, Entered, entered}

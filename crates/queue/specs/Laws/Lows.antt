@@ -6,7 +6,7 @@ use Prim.Native.Nat.{ℕ, zero, suc, pred, _+_, _*_, _%_, _<_}
 use native.Mathlib.Omega.{arith}
 use lib.ListN.{length, getD, set, drop}
 use lib.Seq.{set-getD}
-use Rattle.semantics.specs.Path.{chargeAt, stepsAt}
+use Rattle.semantics.specs.Graph.Path.{chargeAt, stepsAt}
 use Rattle.queue.specs.Queue.{lows}
 
 even-entry : (n : ℕ) (ws : List ℕ) (j v : ℕ) → j ≡ 2 * v → getD (lows n ws) j 0 ≡ getD ws j 0

@@ -8,7 +8,7 @@ use Prim.Native.Nat.{ℕ, suc, _+_, _*_, _≤_, _<_}
 use native.Mathlib.Omega.{arith}
 use lib.Dec.{eqb, leb}
 use borrow.Author.Tests.{ne-eqb, eq-eqb, eqb-true, eqb-false, le-leb, leb-true, leb-false, lt-leb}
-use Rattle.semantics.specs.Path.{infinity, chargeAt, stepsAt}
+use Rattle.semantics.specs.Graph.Path.{infinity, chargeAt, stepsAt}
 use Rattle.queue.specs.Tournament.{none, OwnLeaves}
 use Rattle.queue.specs.Queue.{key, Pending, pends, players}
 

@@ -40,18 +40,22 @@ module _ (a : Automaton) where
   pub numbered-alike : (byte : ℕ) (p s : Place) → SamePlace p s → numbered a byte p ≡ numbered a byte s
   numbered-alike byte p s e = λ i d. record { label = byte; weight = d .weight; to = number-alike p s e (d .corner) i }
 
-  -- From places of one shape a step leads to places of one shape, if it is allowed from both.
+  -- From places of one shape a step leads to places of one shape, if it is allowed from one.
+  pub step-shape :
+      (byte : ℕ) (p s p′ : Place) → SamePlace p s → step a byte p ≡ some p′ → (s′ : Place) × (step a byte s ≡ some s′) × SamePlace p′ s′
+  step-shape byte p s p′ e f =
+      let o = step-alike a p s e (step-view a p p′ byte f) in
+      (o .place, view-step a s (o .stepped), o .same)
+
+  -- If it is allowed from both, to the places to which it leads.
   step-same :
       (byte : ℕ) (p s p′ s′ : Place) → SamePlace p s → step a byte p ≡ some p′ → step a byte s ≡ some s′ → SamePlace p′ s′
   step-same byte p s p′ s′ e f g =
-      let o = step-alike a p s e (step-view a p p′ byte f) in
-      subst (SamePlace p′) (Option·some-injective (o .place) s′ (sym (view-step a s (o .stepped)) ∙ g)) (o .same)
+      let o = step-shape byte p s p′ e f in
+      subst (SamePlace p′) (Option·some-injective (o .0) s′ (sym (o .1) ∙ g)) (o .2)
 
-  -- If it is allowed from one it is allowed from the other.
   step-both : (byte : ℕ) (p s p′ : Place) → SamePlace p s → step a byte p ≡ some p′ → step a byte s ≡ none → ⊥
-  step-both byte p s p′ e f g =
-      let o = step-alike a p s e (step-view a p p′ byte f) in
-      Option·none-ne-some (o .place) (sym g ∙ view-step a s (o .stepped))
+  step-both byte p s p′ e f g = let o = step-shape byte p s p′ e f in Option·none-ne-some (o .0) (sym g ∙ o .1)
 
   step-edges-alike : (p s : Place) → SamePlace p s → (j byte : ℕ) → stepEdges a p j byte ≡ stepEdges a s j byte
   step-edges-alike p s e j byte = go (step a byte p) refl (step a byte s) refl

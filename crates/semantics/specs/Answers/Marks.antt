@@ -59,9 +59,9 @@ module _ (a : Automaton) (l : ℕ) (d : ℕ → Entry) (p : Place) (n : ℕ) (S 
     pub marked : S corner
     pub tight : Tight (cornerGraph a l) d n k (numberOf a p corner) (numberOf a z i)
 
--- The table d became d′: of the corners of the place p those that S marks were left, and no others.
-abbrev pub LeavesMarked : Automaton → (ℕ → Entry) → (ℕ → Entry) → Place → (ℕ → Type 0) → Type 0
-LeavesMarked a d d′ p S = (v : ℕ) → (d′ v ≡ d v) ⊎ ((d′ v ≡ unreached) × ((j : ℕ) × S j × (v ≡ numberOf a p j)))
+-- The table d became d′: of the corners in a row from the node v on those that S marks were left, and no others.
+abbrev pub LeavesMarked : (ℕ → Entry) → (ℕ → Entry) → ℕ → (ℕ → Type 0) → Type 0
+LeavesMarked d d′ v S = (w : ℕ) → (d′ w ≡ d w) ⊎ ((d′ w ≡ unreached) × ((j : ℕ) × S j × (w ≡ v + j)))
 
 module _ {a : Automaton} {l : ℕ} {d : ℕ → Entry} {p : Place} {n : ℕ} {S : ℕ → Type 0} (m : Marks a l d p n S) where
   -- By a marked corner the place stands,
@@ -69,12 +69,17 @@ module _ {a : Automaton} {l : ℕ} {d : ℕ → Entry} {p : Place} {n : ℕ} {S 
   marks-stands j x = record { corner = j; there = m .among j x; entry = m .stands j x }
 
   -- so it is left with them.
-  pub marks-leave : (d′ : ℕ → Entry) → LeavesMarked a d d′ p S → Leaves a d d′ p n
-  marks-leave d′ left v = at (left v)
+  pub marks-leave :
+      (v : ℕ) → ((j : ℕ) → S j → numberOf a p j ≡ v + j) → (d′ : ℕ → Entry) → LeavesMarked d d′ v S → Leaves a d d′ p n
+  marks-leave v row d′ left w = at (left w)
     where
-      at : (d′ v ≡ d v) ⊎ ((d′ v ≡ unreached) × ((j : ℕ) × S j × (v ≡ numberOf a p j))) → LeavesAt a d d′ p n v
+      at : (d′ w ≡ d w) ⊎ ((d′ w ≡ unreached) × ((j : ℕ) × S j × (w ≡ v + j))) → LeavesAt a d d′ p n w
       at (inl e) = inl e
-      at (inr e) = let j = e .1 .0 in inr (e .0, (j, m .among j (e .1 .1), e .1 .2, ap d (e .1 .2) ∙ m .stands j (e .1 .1)))
+      at (inr e) =
+          let j = e .1 .0 in
+          let x = e .1 .1 in
+          let is : w ≡ numberOf a p j = e .1 .2 ∙ sym (row j x) in
+          inr (e .0, (j, m .among j x, is, ap d is ∙ m .stands j x))
 
   -- Its corners stay marked when a place of more steps is left.
   pub marks-kept : (d′ : ℕ → Entry) (q : Place) (n′ : ℕ) → n < n′ → Leaves a d d′ q n′ → Marks a l d′ p n S
@@ -88,14 +93,6 @@ module _ {a : Automaton} {l : ℕ} {d : ℕ → Entry} {p : Place} {n : ℕ} {S 
       at j y (inr e) =
           let z : cost (price (p .region) j) n ≡ cost (price (q .region) (e .1 .0)) n′ = cc in
           absurd (omega (arith, ap (λ (u : Cost). u .steps) z))
-
-  -- A node is marked after one number of steps only.
-  pub marks-once : {q : Place} {n′ : ℕ} {S′ : ℕ → Type 0} → Marks a l d q n′ S′ → (i j : ℕ) → S i → S′ j → numberOf a p i ≡ numberOf a q j → n ≡ n′
-  marks-once {q} {n′} m′ i j x y e =
-      let u = m .stands i x in
-      let v = m′ .stands j y in
-      let z : cost (price (p .region) i) n ≡ cost (price (q .region) j) n′ = cc in
-      ap (λ (c : Cost). c .steps) z
 
 -- The corners of a place are different nodes.
 pub corners-differ :

@@ -53,7 +53,7 @@ pub record MoveEdge (a : Automaton) (p : Place) (j : ℕ) (x : Edge) : Type 0 wh
 
 module _ (a : Automaton) (p : Place) where
   -- Where the step of a move leads.
-  abbrev pub chargedTo : ℕ → Place
+  abbrev chargedTo : ℕ → Place
   chargedTo e = record { mode = moveAt a e .target; region = movedBy a e (p .region) }
 
   -- The price of the move changes no test and no number.
@@ -63,7 +63,7 @@ module _ (a : Automaton) (p : Place) where
       ≡ meetsAll (modeAt a (moveAt a e .target) .conditions) (movedBy a e (p .region))
   charged-meets e = shape-meetsAll _ _ (shape-charge (moveAt a e .price) (movedTo a e p .region)) (modeAt a (moveAt a e .target) .conditions)
 
-  pub charged-number : (e i : ℕ) → numberOf a (chargedTo e) i ≡ numberOf a (movedTo a e p) i
+  charged-number : (e i : ℕ) → numberOf a (chargedTo e) i ≡ numberOf a (movedTo a e p) i
   unfolding charge
   charged-number e i = refl
 

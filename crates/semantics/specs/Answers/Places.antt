@@ -1,6 +1,6 @@
 -- Places whose corners are nodes. Every place on a chain is one, every node is a corner of one, and steps lead from one to another.
 -- Assumes nothing.
-use mathlib.Core.Path.{_≡_, refl, _∙_}
+use mathlib.Core.Path.{_≡_, refl, sym, ap, _∙_}
 use mathlib.Core.Bool.{Bool, true, false}
 use mathlib.Core.Logic.{_↔_}
 use mathlib.Core.List.{List, [], _∷_}
@@ -92,6 +92,32 @@ module _ (a : Automaton) where
         corners = length-replicate (suc (highest (p .region .group))) 0 ∙ highest-prices (p .region) (h .well-formed);
       };
     }
+
+  -- Places go by their shape.
+  pub place-alike : (p s : Place) → SamePlace p s → IsPlace a p → IsPlace a s
+  place-alike p s e h = record {
+    well-formed = shape-well-formed _ _ (e .region) (h .well-formed);
+    cell = rw (← e .region .whole) (h .cell);
+    in-modes = rw (← e .mode) (h .in-modes);
+  }
+
+  -- Places with the same first node have one shape.
+  pub number-shape : (p s : Place) → IsPlace a p → IsPlace a s → numberOf a p 0 ≡ numberOf a s 0 → SamePlace p s
+  number-shape p s h k e =
+      let x = number-node p h 0 (h .well-formed .priced) in
+      let y = number-node s k 0 (k .well-formed .priced) in
+      let n : nodeOf (p .mode) (p .region) 0 ≡ nodeOf (s .mode) (s .region) 0 = sym x ∙ ap (nodeAt (a .ceilings)) e ∙ y in
+      let group = ap (λ (u : Node). u .corner .group) n in
+      record {
+        mode = ap (λ (u : Node). u .mode) n;
+        region = record {
+          whole = ap (λ (u : Node). u .whole) n;
+          group = group;
+          corners =
+              sym (highest-prices (p .region) (h .well-formed)) ∙ ap (λ (gs : List ℕ). suc (highest gs)) group
+              ∙ highest-prices (s .region) (k .well-formed);
+        };
+      }
 
   -- Every node is a corner of its place.
   module _ (ok : Proper a) (x : Node) (n : IsNode a x) where

@@ -5,10 +5,10 @@ use mathlib.Core.Bool.{Bool, true, false, cond}
 use mathlib.Core.Logic.{⊎-elim}
 use mathlib.Core.List.{List, [], _∷_, _++_}
 use mathlib.Core.Option.{Option, none, some, Option·some-injective, Option·none-ne-some}
-use Prim.Native.Nat.{ℕ, _<_}
+use Prim.Native.Nat.{ℕ, zero, suc, _<_}
 use borrow.Author.Tests.{eqb-true, eq-eqb, ltb-true, lt-ltb}
 use lib.Dec.{ltb, eqb}
-use lib.ListN.{length}
+use lib.ListN.{length, take}
 use Rattle.semantics.specs.Automaton.{Automaton, modeAt, moveAt}
 use Rattle.semantics.specs.Region.{PricedRegion, count, leave, arrive, delay, linger, resetAll, charge, meetsAll}
 use Rattle.semantics.specs.Chain.{Place, onlyIf, delayStep, lingerStep, moveStep, step, follow, begin, chain}
@@ -140,6 +140,21 @@ module _ (a : Automaton) where
       (bytes : List ℕ) (byte : ℕ) (p p′ : Place) → chain a bytes ≡ some p → Stepped a p byte p′ → chain a (bytes ++ byte ∷ []) ≡ some p′
   unfolding chain
   chain-snoc bytes byte p p′ h s = follow-snoc bytes byte (begin a) p p′ h (view-step a p s)
+
+  -- The first steps of a chain are one.
+  pub follow-take :
+      (i : ℕ) (bytes : List ℕ) (p p″ : Place) → follow a bytes p ≡ some p″ → (p′ : Place) × (follow a (take i bytes) p ≡ some p′)
+  unfolding follow
+  follow-take zero bytes p p″ h = (p, refl)
+  follow-take (suc i) [] p p″ h = (p, refl)
+  follow-take (suc i) (byte ∷ bytes) p p″ h =
+      let f = follow-first byte bytes p p″ h in
+      let o = follow-take i bytes (f .0) p″ (f .2) in
+      (o .0, follow-cons byte (take i bytes) p (f .0) (f .1) ∙ o .1)
+
+  pub chain-take : (i : ℕ) (bytes : List ℕ) (p : Place) → chain a bytes ≡ some p → (p′ : Place) × (chain a (take i bytes) ≡ some p′)
+  unfolding chain
+  chain-take i bytes p h = follow-take i bytes (begin a) p h
 
   -- What every allowed step keeps, a chain keeps.
   pub follow-keeps :

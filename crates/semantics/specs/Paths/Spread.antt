@@ -28,14 +28,14 @@ pub path-cost : (g : Graph) (v : ℕ) (p : List Edge) → IsPath g v p → HasCo
 path-cost g v p w = record { path = p; is-path = w; charged = refl; counted = refl }
 
 -- If a path is least, so is what is left of it after its first edge.
-pub least-rest :
+least-rest :
     (g : Graph) (v : ℕ) (x : Edge) (q : List Edge) → Leaves g v x → IsPath g (x .to) q → Least g v (costOf (x ∷ q))
     → Least g (x .to) (costOf q)
 least-rest g v x q l w b =
     record { attained = path-cost g (x .to) q w; least = λ p k. along-cancel-less x (costOf q) (costOf p) (b .least (x ∷ p) (l, k)) }
 
 -- An attained entry that is within the least cost is the least cost.
-pub within-least :
+within-least :
     (g : Graph) (ws : List ℕ) (w : ℕ) (b : Cost) → Sound g ws → w < g .nodes → Least g w b → Within (table ws w) b
     → table ws w ≡ reached b
 within-least g ws w b ok h l k =

@@ -12,7 +12,7 @@ use Rattle.route.specs.declared.Answer.{Answer}
 use Rattle.route.specs.declared.Answer.the-variants.{Refused, NoRoute, Route}
 use Rattle.route.specs.Plan.{outcome, planned}
 use Rattle.route.specs.Promise.{KeepsDemand}
-use Rattle.route.specs.Refusals.{planned-range}
+use Rattle.route.specs.Refused.{planned-range}
 use Rattle.planner.specs.Numbers.{decoded, Untouched}
 
 decoded-route : (C n : ℕ) → decoded 0 C n ≡ Route C n

@@ -9,7 +9,7 @@ use native.Mathlib.Numerals.{add-one}
 use native.Mathlib.Omega.{arith}
 use lib.ListN.{length, take, drop, set, replicate, length-append, length-set, length-replicate, take-append-drop}
 use lib.Seq.{length-take-le, take-suc-set, drop-set-lt}
-use Rattle.semantics.specs.Automaton.{Proper}
+use Rattle.semantics.specs.Automata.Proper.{Proper}
 use Rattle.semantics.specs.Order.{Cost}
 use Rattle.semantics.specs.Graph.Path.{infinity, table}
 use Rattle.semantics.specs.NodeCount.{nodeCount}

@@ -10,7 +10,8 @@ use borrow.Author.Tests.{leb-true, leb-false}
 use lib.Dec.{leb}
 use lib.ListN.{length, drop, take}
 use lib.Seq.{take-append-seam}
-use Rattle.semantics.specs.Automaton.{Automaton, Proper}
+use Rattle.semantics.specs.Automata.Proper.{Proper}
+use Rattle.semantics.specs.Automaton.{Automaton}
 use Rattle.semantics.specs.NodeCount.{nodeCount}
 use Rattle.semantics.specs.Chain.{movesOf}
 use Rattle.semantics.specs.Order.{cost, Best}
@@ -42,7 +43,8 @@ module _ (bytes : List ℕ) (lent : ℕ) where
       s .is-automaton ∙ ap automaton same ∙ sym (t .is-automaton)
 
   -- A refusal before the search, by another number than 10.
-  refused-keeps : (rs : List ℕ) (n : ℕ) → n ≢ 10 → ((a : Automaton) → IsSearched bytes lent a → ⊥) → KeepsDemand bytes lent rs (Refused n)
+  refused-keeps :
+      (rs : List ℕ) (n : ℕ) → n ≢ 10 → ((a : Automaton) → IsSearched bytes lent a → ⊥) → KeepsDemand bytes lent rs (Refused n)
   refused-keeps rs n other none = record {
     reported = λ C k e. absurd (true≢false cc);
     best = λ C k e a s. absurd (none a s);
@@ -106,9 +108,13 @@ module _ (bytes : List ℕ) (lent : ℕ) where
       route-keeps : (rs : List ℕ) → KeepsDemand bytes lent (ks ++ rs) (Route C (length ks))
       route-keeps rs = record {
         reported = λ D k e. (a, s);
-        best = λ D k e. others (λ b. Best (Comes b (b .goal)) (cost D k) (take k (ks ++ rs))) (told (λ D k js. Best (Comes a (a .goal)) (cost D k) js) D k e (answer-best a ok (a .goal) C ks .0 is));
+        best = λ D k e.
+            others (λ b. Best (Comes b (b .goal)) (cost D k) (take k (ks ++ rs)))
+            (told (λ D k js. Best (Comes a (a .goal)) (cost D k) js) D k e (answer-best a ok (a .goal) C ks .0 is));
         no-chain = same-chains (Route C (length ks)) none;
-        at-least = λ D k e. others (λ b. AtLeast b (b .goal) D) (told (λ D k js. AtLeast a (a .goal) D) D k e (answer-at-least a ok (a .goal) C ks is));
+        at-least = λ D k e.
+            others (λ b. AtLeast b (b .goal) D)
+            (told (λ D k js. AtLeast a (a .goal) D) D k e (answer-at-least a ok (a .goal) C ks is));
         approached = λ D k e.
             others (λ b. Approached b (b .goal) (movesOf (take k (ks ++ rs))) D)
             (told (λ D k js. Approached a (a .goal) (movesOf js) D) D k e (answer-approached a ok (a .goal) C ks is));
@@ -120,7 +126,9 @@ module _ (bytes : List ℕ) (lent : ℕ) where
           none = no-none (Route C (length ks)) (λ e. true≢false cc)
 
           -- What holds of the charge, the steps and the route holds of what is reported.
-          told : (P : ℕ → ℕ → List ℕ → Type 0) (D k : ℕ) → Route C (length ks) ≡ Route D k → P C (length ks) ks → P D k (take k (ks ++ rs))
+          told :
+              (P : ℕ → ℕ → List ℕ → Type 0) (D k : ℕ) → Route C (length ks) ≡ Route D k → P C (length ks) ks
+              → P D k (take k (ks ++ rs))
           told P D k e p =
               let charged : C ≡ D = cc in
               let counted : length ks ≡ k = cc in

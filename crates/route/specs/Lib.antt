@@ -1,9 +1,10 @@
 -- What the contract of planning means.
 pub mod Plan
 pub mod Promise
--- And those of the private functions.
-pub mod Walk
--- The outcome of the definitions keeps demand 3.
-pub mod Keeps
--- The numbers of refusals.
+-- Document 01's table of refusals, and that planning refuses by it.
 pub mod Refusals
+pub mod Refused
+-- The outcome of the definitions keeps demands 2 and 3.
+pub mod Keeps
+-- What the contracts of the private functions mean.
+pub mod Walk

@@ -1,53 +1,51 @@
--- Planning refuses by the numbers 1 to 10 and by no other.
+-- Document 01, "Refusals in their order": when each number is said. `refused-first` (Refused) proves that planning says exactly these.
 -- Assumes nothing.
-use mathlib.Core.Path.{_≡_, refl}
-use mathlib.Core.Bool.{Bool, true, false, cond, true≢false}
+use mathlib.Core.Path.{_≡_}
+use mathlib.Core.Bool.{false}
 use mathlib.Core.List.{List, _++_}
-use Prim.Native.Nat.{ℕ, _*_, _≤_}
-use native.Mathlib.Omega.{arith}
-use lib.Dec.{leb}
-use lib.ListN.{length, drop}
-use Rattle.semantics.specs.Automaton.{Automaton}
+use Prim.Native.Nat.{ℕ, _*_, _<_}
+use lib.ListN.{length}
+use Rattle.semantics.specs.Automaton.{startHolds}
 use Rattle.semantics.specs.NodeCount.{nodeCount}
-use Rattle.semantics.specs.Answer.{Answer as Best, noRoute, route, answer}
+use Rattle.semantics.specs.Order.{cost, Best}
+use Rattle.semantics.specs.Answer.{Comes}
+use Rattle.reader.specs.Parser.{refused, run}
+use Rattle.reader.specs.Fields.{Fields}
+use Rattle.reader.specs.Format.{table}
+use Rattle.reader.specs.Layout.{Layout}
 use Rattle.reader.specs.Meaning.{automaton}
-use Rattle.reader.specs.Read.{Judgement, accepted, rejected, read}
-use Rattle.reader.specs.Theorems.Refusals.{rejected-range}
-use Rattle.search.specs.declared.Searched.the-variants.{Nodes, Refused as Searched·Refused}
-use Rattle.search.specs.Outcome.{mostNodes, answered, cleared}
-use Rattle.route.specs.declared.Answer.the-variants.{Refused, NoRoute, Route}
-use Rattle.route.specs.Plan.{Outcome, outcome, routed, afterRoom, plannedTable, judged, planned}
 
--- An outcome whose refusal, if it is one, has a number from 1 to 10.
-abbrev InRange : Outcome → Type 0
-InRange o = (n : ℕ) → o .answer ≡ Refused n → (1 ≤ n) × (n ≤ 10)
+-- The bytes begin with the layout of a table that has the fields f; `left` is what comes behind it.
+pub record Begins (bytes : List ℕ) (f : Fields) (left : List ℕ) : Type 0 where
+  pub front : List ℕ
+  pub split : bytes ≡ front ++ left
+  pub laid : Layout front f
 
-refused-in : (k : ℕ) (ws rs : List ℕ) → 1 ≤ k → k ≤ 10 → InRange (outcome (Refused k) ws rs)
-refused-in k ws rs low high n e = let q : k ≡ n = cc in (omega arith, omega arith)
+-- The lines of such a table, where so many words and so many route bytes are lent.
+pub data Later (f : Fields) (left : List ℕ) (words room : ℕ) : ℕ → Type 0 where
+  -- 6: "bytes left over".
+  left-over : 0 < length left → Later f left words room 6
+  -- 7: "mode 0's conditions fail at zero".
+  start-fails : startHolds (automaton f) ≡ false → Later f left words room 7
+  -- 8: "E above 65,536".
+  large : 65536 < nodeCount (automaton f) → Later f left words room 8
+  -- 9: "fewer than 2E words lent".
+  few-words : words < 2 * nodeCount (automaton f) → Later f left words room 9
+  -- 10: "the route has more steps than route bytes lent". The route is the best of all chains into the goal.
+  long-route :
+      (C : ℕ) (ks : List ℕ) → Best (Comes (automaton f) (f .goal)) (cost C (length ks)) ks → room < length ks
+      → Later f left words room 10
 
-module _ (a : Automaton) (ws rs : List ℕ) where
-  routed-in : (b : Best) → InRange (routed a b ws rs)
-  routed-in noRoute n e = absurd (true≢false cc)
-  routed-in (route C ks) n e = go (leb (length ks) (length rs)) n e
-    where
-      go : (t : Bool)
-          → InRange (cond t (outcome (Route C (length ks)) (cleared a ws) (ks ++ drop (length ks) rs)) (outcome (Refused 10) (cleared a ws) rs))
-      go true n e = absurd (true≢false cc)
-      go false n e = refused-in 10 (cleared a ws) rs (omega arith) (omega arith) n e
+-- The lines of any bytes.
+pub data Line (bytes : List ℕ) (words room : ℕ) : ℕ → Type 0 where
+  -- "Bytes are judged from the left, each before the next is sought": 1 to 5 are said of a byte, so the parser is their definition. It has 1,
+  -- "a byte is needed and none is left", in reader/specs/Parser, and in Format beside the test of each field 2, "a count, goal or ceiling
+  -- outside its range"; 3, "a map or reset bit for an absent timer, or bit 7 in a mode, or reset bits 3 to 7"; 4, "condition code not 1 to 5";
+  -- and 5, "from or to not below m".
+  at-byte : {n : ℕ} → run table bytes ≡ refused n → Line bytes words room n
+  behind : {n : ℕ} (f : Fields) (left : List ℕ) → Begins bytes f left → Later f left words room n → Line bytes words room n
 
-  table-in : InRange (plannedTable a ws rs)
-  unfolding plannedTable
-  table-in = go (leb (nodeCount a) mostNodes) (leb (2 * nodeCount a) (length ws))
-    where
-      go : (b d : Bool) → InRange (afterRoom (cond b (cond d (Nodes (nodeCount a)) (Searched·Refused 9)) (Searched·Refused 8)) a ws rs)
-      go true true = routed-in (answer a (a .goal))
-      go true false = refused-in 9 ws rs (omega arith) (omega arith)
-      go false d = refused-in 8 ws rs (omega arith) (omega arith)
-
-pub planned-range : (bytes ws rs : List ℕ) → InRange (planned bytes ws rs)
-unfolding planned
-planned-range bytes ws rs = go (read bytes) refl
-  where
-    go : (j : Judgement) → read bytes ≡ j → InRange (judged j ws rs)
-    go (rejected k) e = let b = rejected-range bytes k e in refused-in k ws rs (b .0) (omega (arith, b .1))
-    go (accepted f) e = table-in (automaton f) ws rs
+-- "the first fault decides among 1 to 5. Then 6 to 9 in order. Then the search": n is the first number whose line holds.
+pub record FirstLine (bytes : List ℕ) (words room n : ℕ) : Type 0 where
+  pub line : Line bytes words room n
+  pub none-before : (k : ℕ) → Line bytes words room k → k < n → ⊥

@@ -7,7 +7,7 @@ use Prim.Native.Nat.{ℕ, zero, suc, _+_, _≤_, _<_}
 use native.Mathlib.Decide.{decLt}
 use native.Mathlib.Omega.{arith}
 use lib.ListN.{length, getD, List·getD-eq-default}
-use Rattle.semantics.specs.Automaton.{Proper}
+use Rattle.semantics.specs.Automata.Proper.{Proper}
 use Rattle.semantics.specs.Region.{top}
 use Rattle.semantics.specs.Answer.{countFrom}
 use Rattle.semantics.specs.NodeCount.{nodeCount}

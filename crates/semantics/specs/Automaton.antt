@@ -1,9 +1,8 @@
 -- The automaton that a table stands for (a priced timed automaton: source document 001, section 2), free of bytes and widths.
 -- Assumes nothing.
-use Prim.Native.Nat.{ℕ, _≤_, _<_}
-use mathlib.Core.Path.{_≡_}
-use mathlib.Core.Bool.{Bool, true}
-use mathlib.Core.List.{List, [], List·Memᴰ}
+use Prim.Native.Nat.{ℕ}
+use mathlib.Core.Bool.{Bool}
+use mathlib.Core.List.{List, []}
 use lib.ListN.{length, getD}
 use Rattle.semantics.specs.Condition.{Condition, holdAtZero}
 
@@ -42,20 +41,3 @@ moveAt a e = getD (a .moves) e (record { source = 0; target = 0; price = 0; cond
 -- Mode 0's conditions hold at zero, where every run begins.
 abbrev pub startHolds : Automaton → Bool
 startHolds a = holdAtZero (modeAt a 0 .conditions)
-
--- Every condition is on one of n timers.
-abbrev pub OnTimers : ℕ → List Condition → Type 0
-OnTimers n cs = (c : Condition) → List·Memᴰ c cs → c .timer < n
-
--- What holds of the automaton of every table: there are timers and modes and at most 64 moves, modes and timers that are named are there,
--- and mode 0's conditions hold at zero.
-pub record Proper (a : Automaton) : Type 0 where
-  pub some-timer : 1 ≤ timers a
-  pub goal-there : a .goal < length (a .modes)
-  pub few-moves : length (a .moves) ≤ 64
-  pub invariants-on : (m : Mode) → List·Memᴰ m (a .modes) → OnTimers (timers a) (m .conditions)
-  pub guards-on : (e : Move) → List·Memᴰ e (a .moves) → OnTimers (timers a) (e .conditions)
-  pub resets-on : (e : Move) → List·Memᴰ e (a .moves) → (x : ℕ) → List·Memᴰ x (e .resets) → x < timers a
-  pub source-there : (e : Move) → List·Memᴰ e (a .moves) → e .source < length (a .modes)
-  pub target-there : (e : Move) → List·Memᴰ e (a .moves) → e .target < length (a .modes)
-  pub start-holds : startHolds a ≡ true

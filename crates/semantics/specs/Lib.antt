@@ -19,7 +19,9 @@ pub mod Order
 pub mod Answer
 -- What demand 3 says of a charge, over runs.
 pub mod Demand
--- Theory, which nobody has to believe. The laws of priced regions.
+-- Theory, which nobody has to believe. What the theorems ask of an automaton.
+pub mod Automata
+-- The laws of priced regions.
 pub mod Regions
 -- The corners of a cell: how many there are, their numbers, the edges between them.
 pub mod Corners

@@ -11,7 +11,8 @@ use mathlib.Core.List.{List, [], _∷_, map, List·Memᴰ, List·Memᴰ·cases-c
 use borrow.Author.Tests.{eqb-true, eqb-false}
 use lib.Dec.{eqb}
 use lib.ListN.{length, length-map}
-use Rattle.semantics.specs.Automaton.{Move, OnTimers, Proper, startHolds}
+use Rattle.semantics.specs.Automata.Proper.{OnTimers, Proper}
+use Rattle.semantics.specs.Automaton.{Move, startHolds}
 use Rattle.reader.specs.Fields.{MoveFields, Fields}
 use Rattle.reader.specs.Format.{stands}
 use Rattle.reader.specs.Layout.{Optional, present, absent, InRow, none, more, TimersThere, IsCondition, IsReset, SixConditions, MoveLayout, Layout}

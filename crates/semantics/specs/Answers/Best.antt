@@ -8,7 +8,8 @@ use Prim.Native.Nat.{ℕ, suc, pred, _*_, _-_, _≤_}
 use native.Mathlib.Nat.{le-trans, mul-le-mul-right}
 use native.Mathlib.Omega.{arith}
 use lib.ListN.{length}
-use Rattle.semantics.specs.Automaton.{Automaton, Proper}
+use Rattle.semantics.specs.Automata.Proper.{Proper}
+use Rattle.semantics.specs.Automaton.{Automaton}
 use Rattle.semantics.specs.Order.{cost, Best}
 use Rattle.semantics.specs.NodeCount.{nodeCount}
 use Rattle.semantics.specs.Chain.{begin}
@@ -56,7 +57,7 @@ module _ (a : Automaton) (ok : Proper a) (l : ℕ) where
   answer-is-best = all-best (answer a l) answer-few
 
   -- Nothing else is: two routes that are the best are equal.
-  pub best-answer : (x y : Answer) → IsBest (Comes a l) x → IsBest (Comes a l) y → x ≡ y
+  best-answer : (x y : Answer) → IsBest (Comes a l) x → IsBest (Comes a l) y → x ≡ y
   best-answer noRoute noRoute b c = refl
   best-answer noRoute (route D ks) b c = absurd (b ks D (c .first .good .0))
   best-answer (route C js) noRoute b c = absurd (c js C (b .first .good .0))

@@ -8,7 +8,8 @@ use Prim.Native.Nat.{ℕ, _+_, _*_, _<_, _≤_}
 use native.Mathlib.Nat.{zero-mul, suc-mul}
 use native.Mathlib.Omega.{arith}
 use lib.ListN.{length, getD}
-use Rattle.semantics.specs.Automaton.{Automaton, Proper}
+use Rattle.semantics.specs.Automata.Proper.{Proper}
+use Rattle.semantics.specs.Automaton.{Automaton}
 use Rattle.semantics.specs.Region.{start}
 use Rattle.semantics.specs.Chain.{Place, step, follow, begin, chain}
 use Rattle.semantics.specs.Answer.{Comes}

@@ -3,7 +3,8 @@
 use mathlib.Core.Path.{_≡_, refl, sym, _∙_}
 use Prim.Native.Nat.{ℕ}
 use lib.ListN.{getD}
-use Rattle.semantics.specs.Automaton.{Automaton, Proper}
+use Rattle.semantics.specs.Automata.Proper.{Proper}
+use Rattle.semantics.specs.Automaton.{Automaton}
 use Rattle.semantics.specs.Graph.Path.{Graph, Closed, Entry, unreached, reached, LeastCosts}
 use Rattle.semantics.specs.Chain.{begin}
 use Rattle.semantics.specs.Answer.{Answer, noRoute, route, answer}

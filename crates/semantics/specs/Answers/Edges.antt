@@ -5,7 +5,8 @@ use mathlib.Core.List.{List·Memᴰ, List·Memᴰ·eq-of-singleton}
 use Prim.Native.Nat.{ℕ, suc, _≤_}
 use native.Mathlib.Omega.{arith}
 use borrow.Author.Tests.{eq-eqb, ne-eqb, lt-ltb}
-use Rattle.semantics.specs.Automaton.{Automaton, modeAt, moveAt, Proper}
+use Rattle.semantics.specs.Automata.Proper.{Proper}
+use Rattle.semantics.specs.Automaton.{Automaton, modeAt, moveAt}
 use Rattle.semantics.specs.Region.{count, top}
 use Rattle.semantics.specs.Chain.{Place}
 use Rattle.semantics.specs.Corners.Edges.{Edge, passEdges, dropEdges, edges}

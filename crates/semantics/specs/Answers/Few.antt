@@ -10,7 +10,8 @@ use native.Mathlib.Omega.{arith}
 use borrow.Author.Tests.{eqb-true, eqb-false}
 use lib.Dec.{eqb}
 use lib.ListN.{length}
-use Rattle.semantics.specs.Automaton.{Automaton, Proper}
+use Rattle.semantics.specs.Automata.Proper.{Proper}
+use Rattle.semantics.specs.Automaton.{Automaton}
 use Rattle.semantics.specs.Order.{cost}
 use Rattle.semantics.specs.Chain.{Place, step}
 use Rattle.semantics.specs.Answer.{Answer, noRoute, route, better, behind, least, stopping, stepBytes, overSteps, bestFrom}

@@ -9,7 +9,8 @@ use native.Mathlib.Omega.{arith}
 use lib.Dec.{leb}
 use borrow.Author.Tests.{le-leb, leb-true}
 use lib.ListN.{length}
-use Rattle.semantics.specs.Automaton.{Automaton, Proper}
+use Rattle.semantics.specs.Automata.Proper.{Proper}
+use Rattle.semantics.specs.Automaton.{Automaton}
 use Rattle.semantics.specs.Order.{Cost, cost}
 use Rattle.semantics.specs.Graph.Path.{Edge, Graph, IsPath, Target, HasCost, Least, Entry, unreached, reached, LeastCosts}
 use Rattle.semantics.specs.Graph.Distance.{distance}
@@ -31,7 +32,7 @@ use Rattle.semantics.specs.Answers.System.{chains, chains-follow, target
 use Rattle.semantics.specs.Answers.Table.{routing}
 
 -- An entry that is as near as the cost B is kept.
-pub near-keeps :
+near-keeps :
     (x y : Entry) (B b : Cost) → x ≡ reached B → y ≡ reached b → b .charge ≤ B .charge → b .steps ≤ B .steps → near x y ≡ reached b
 near-keeps x y B b p q h k = rw (p, q, le-leb (b .charge) (B .charge) h, le-leb (b .steps) (B .steps) k) refl
 

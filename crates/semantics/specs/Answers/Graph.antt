@@ -8,7 +8,8 @@ use Prim.Native.Nat.{ℕ, _<_, _≤_}
 use native.Mathlib.Omega.{arith}
 use lib.Dec.{eqb}
 use lib.ListN.{length}
-use Rattle.semantics.specs.Automaton.{Automaton, Proper}
+use Rattle.semantics.specs.Automata.Proper.{Proper}
+use Rattle.semantics.specs.Automaton.{Automaton}
 use Rattle.semantics.specs.Corners.Corner.{flatMap}
 use Rattle.semantics.specs.Graph.Path.{Edge, Leaves, Closed, WeightsWithin}
 use Rattle.semantics.specs.NodeCount.{nodeCount}

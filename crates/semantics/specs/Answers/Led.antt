@@ -8,7 +8,8 @@ use mathlib.Core.Option.{some}
 use Prim.Native.Nat.{ℕ, suc, _+_, _<_}
 use native.Mathlib.Omega.{arith}
 use lib.ListN.{length}
-use Rattle.semantics.specs.Automaton.{Automaton, Proper, moveAt}
+use Rattle.semantics.specs.Automata.Proper.{Proper}
+use Rattle.semantics.specs.Automaton.{Automaton, moveAt}
 use Rattle.semantics.specs.Order.{Cost, cost}
 use Rattle.semantics.specs.Graph.Path.{Edge, Entry, reached}
 use Rattle.semantics.specs.Chain.{Place, step}

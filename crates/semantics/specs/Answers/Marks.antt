@@ -8,7 +8,8 @@ use mathlib.Core.Option.{some, Option·some-injective}
 use Prim.Native.Nat.{ℕ, suc, _+_, _≤_, _<_}
 use native.Mathlib.Omega.{arith}
 use lib.ListN.{length, length-append}
-use Rattle.semantics.specs.Automaton.{Automaton, Proper}
+use Rattle.semantics.specs.Automata.Proper.{Proper}
+use Rattle.semantics.specs.Automaton.{Automaton}
 use Rattle.semantics.specs.Order.{Cost, cost}
 use Rattle.semantics.specs.Graph.Path.{Edge, Graph, Leaves as LeavesNode, Entry, unreached, reached}
 use Rattle.semantics.specs.Graph.Distance.{distance}

@@ -12,7 +12,8 @@ use native.Mathlib.Omega.{arith}
 use borrow.Author.Tests.{lt-ltb, ltb-true, ltb-false}
 use lib.Dec.{ltb}
 use lib.ListN.{length, getD}
-use Rattle.semantics.specs.Automaton.{Automaton, modeAt, moveAt, Proper}
+use Rattle.semantics.specs.Automata.Proper.{Proper}
+use Rattle.semantics.specs.Automaton.{Automaton, modeAt, moveAt}
 use Rattle.semantics.specs.Region.{PricedRegion, top, alone, reset, resetAll, charge, meetsAll}
 use Rattle.semantics.specs.Graph.Path.{Edge, Leaves}
 use Rattle.semantics.specs.Nodes.Node.{nodeNumber}
@@ -148,7 +149,7 @@ unfolding resetAllCorner
 resets-fall [] r j = omega arith
 resets-fall (x ∷ xs) r j = omega (arith, resets-fall xs (reset x r) (resetCorner x r j), reset-falls x r j)
 
-pub resetAllCorner-monotone :
+resetAllCorner-monotone :
     (xs : List ℕ) (r : PricedRegion) (i j : ℕ) → i ≤ j → resetAllCorner xs r i ≤ resetAllCorner xs r j
 unfolding resetAllCorner
 resetAllCorner-monotone [] r i j h = h

@@ -7,7 +7,8 @@ use mathlib.Core.List.{List, [], _∷_}
 use Prim.Native.Nat.{ℕ, zero, suc, _<_, _≤_}
 use native.Mathlib.Omega.{arith}
 use lib.ListN.{length, getD, replicate, length-replicate}
-use Rattle.semantics.specs.Automaton.{Automaton, timers, moveAt, Proper}
+use Rattle.semantics.specs.Automata.Proper.{Proper}
+use Rattle.semantics.specs.Automaton.{Automaton, timers, moveAt}
 use Rattle.semantics.specs.Region.{PricedRegion, WellFormed, top, charge}
 use Rattle.semantics.specs.Run.{among}
 use Rattle.semantics.specs.Corners.Corner.{corners}

@@ -5,7 +5,8 @@ use mathlib.Core.Path.{_≡_}
 use mathlib.Core.List.{List}
 use Prim.Native.Nat.{ℕ}
 use lib.ListN.{length}
-use Rattle.semantics.specs.Automaton.{Automaton, Proper}
+use Rattle.semantics.specs.Automata.Proper.{Proper}
+use Rattle.semantics.specs.Automaton.{Automaton}
 use Rattle.semantics.specs.Order.{Cost}
 use Rattle.semantics.specs.Graph.Path.{Entry, unreached, reached, LeastCosts}
 use Rattle.semantics.specs.Chain.{begin}
@@ -44,7 +45,7 @@ module _ (a : Automaton) (ok : Proper a) (l : ℕ) (d : ℕ → Entry) (exact : 
     pub begin-completes : Completes (chains a) d (begin a) c
     begin-completes = start-completes routing (begin a) (startNode a) (begin-starts a ok) c q
 
-    pub begin-bound : LowerBound (chains a) d (begin a) c
+    begin-bound : LowerBound (chains a) d (begin a) c
     begin-bound = start-bound routing (begin a) (startNode a) (begin-starts a ok) c q
 
     -- The greedy reading from the start finds them.

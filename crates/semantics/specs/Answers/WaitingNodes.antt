@@ -9,7 +9,8 @@ use Prim.Native.Nat.{ℕ, suc, _≤_, _<_}
 use native.Mathlib.Decide.{ℕ-discrete}
 use native.Mathlib.Omega.{arith}
 use borrow.Author.Tests.{eq-eqb, ne-eqb, eqb-true}
-use Rattle.semantics.specs.Automaton.{Automaton, Proper}
+use Rattle.semantics.specs.Automata.Proper.{Proper}
+use Rattle.semantics.specs.Automaton.{Automaton}
 use Rattle.semantics.specs.Region.{PricedRegion, WellFormed, count, top, noZero, delay, within}
 use Rattle.semantics.specs.Graph.Path.{Edge, Leaves}
 use Rattle.semantics.specs.Chain.{Place}

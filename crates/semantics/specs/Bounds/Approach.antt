@@ -8,7 +8,8 @@ use mathlib.Core.List.{List, [], _∷_, _++_}
 use Prim.Native.Nat.{ℕ, _+_, _*_, _<_, _≤_}
 use native.Mathlib.Omega.{arith}
 use lib.ListN.{length}
-use Rattle.semantics.specs.Automaton.{Automaton, timers, modeAt, moveAt, Proper}
+use Rattle.semantics.specs.Automata.Proper.{Proper}
+use Rattle.semantics.specs.Automaton.{Automaton, timers, modeAt, moveAt}
 use Rattle.semantics.specs.Region.{PricedRegion, WellFormed, top, start, resetAll, meetsAll}
 use Rattle.semantics.specs.Run.{among, zeroed}
 use Rattle.semantics.specs.Corners.Edges.{resetAllCorner, SameShape}

@@ -11,7 +11,8 @@ use native.Mathlib.Omega.{arith}
 use borrow.Author.Tests.{lt-ltb, le-ltb}
 use lib.Dec.{ltb}
 use lib.ListN.{length}
-use Rattle.semantics.specs.Automaton.{Automaton, timers, modeAt, Proper}
+use Rattle.semantics.specs.Automata.Proper.{Proper}
+use Rattle.semantics.specs.Automaton.{Automaton, timers, modeAt}
 use Rattle.semantics.specs.Region.{PricedRegion, WellFormed, count, top, leave, arrive}
 use Rattle.semantics.specs.Regions.Lengths.{leave-timers, leave-top, arrive-timers, arrive-top}
 use Rattle.semantics.specs.Regions.WellFormed.{leave-well-formed, arrive-well-formed}

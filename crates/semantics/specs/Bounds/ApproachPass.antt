@@ -7,7 +7,8 @@ use Prim.Native.Nat.{ℕ, zero, suc, _+_, _*_, _-_, _<_, _≤_}
 use native.Mathlib.Nat.{mul-le-mul-left, mul-le-mul-right, mul-sub}
 use native.Mathlib.Omega.{arith}
 use lib.ListN.{length}
-use Rattle.semantics.specs.Automaton.{Automaton, timers, modeAt, Proper}
+use Rattle.semantics.specs.Automata.Proper.{Proper}
+use Rattle.semantics.specs.Automaton.{Automaton, timers, modeAt}
 use Rattle.semantics.specs.Region.{PricedRegion, WellFormed, count, top, leave}
 use Rattle.semantics.specs.Regions.Lengths.{leave-timers, leave-top}
 use Rattle.semantics.specs.Regions.WellFormed.{leave-well-formed}

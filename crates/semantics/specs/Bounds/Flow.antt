@@ -7,7 +7,8 @@ use Prim.Native.Nat.{ℕ, zero, suc, _+_, _≤_}
 use native.Mathlib.Omega.{arith}
 use borrow.Author.Tests.{eq-eqb, ne-eqb, lt-ltb}
 use lib.ListN.{length}
-use Rattle.semantics.specs.Automaton.{Automaton, timers, moveAt, Proper}
+use Rattle.semantics.specs.Automata.Proper.{Proper}
+use Rattle.semantics.specs.Automaton.{Automaton, timers, moveAt}
 use Rattle.semantics.specs.Region.{PricedRegion, WellFormed, count, top, leave, arrive, resetAll}
 use Rattle.semantics.specs.Run.{among}
 use Rattle.semantics.specs.Chain.{Place}

@@ -8,7 +8,8 @@ use Prim.Native.Nat.{ℕ, suc, _<_, _≤_}
 use native.Mathlib.Nat.{le-refl}
 use native.Mathlib.Omega.{arith}
 use lib.ListN.{length}
-use Rattle.semantics.specs.Automaton.{Automaton, timers, modeAt, moveAt, Proper}
+use Rattle.semantics.specs.Automata.Proper.{Proper}
+use Rattle.semantics.specs.Automaton.{Automaton, timers, modeAt, moveAt}
 use Rattle.semantics.specs.Region.{PricedRegion, WellFormed, top, resetAll, meetsAll}
 use Rattle.semantics.specs.Run.{among, zeroed, BelowCeilings}
 use Rattle.semantics.specs.Corners.Edges.{resetAllCorner}

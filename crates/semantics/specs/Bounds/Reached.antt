@@ -7,7 +7,8 @@ use mathlib.Core.Option.{some}
 use Prim.Native.Nat.{ℕ, _<_}
 use native.Mathlib.Omega.{arith}
 use lib.ListN.{length}
-use Rattle.semantics.specs.Automaton.{Automaton, timers, moveAt, Proper}
+use Rattle.semantics.specs.Automata.Proper.{Proper}
+use Rattle.semantics.specs.Automaton.{Automaton, timers, moveAt}
 use Rattle.semantics.specs.Region.{WellFormed, start}
 use Rattle.semantics.specs.Chain.{Place, begin, chain}
 use Rattle.semantics.specs.Regions.Lengths.{start-timers, leave-timers, arrive-timers}

@@ -9,7 +9,8 @@ use Prim.Native.Nat.{ℕ, zero, suc, pred, _+_, _<_, _≤_}
 use native.Mathlib.Decide.{ℕ-discrete}
 use native.Mathlib.Omega.{arith}
 use lib.ListN.{length}
-use Rattle.semantics.specs.Automaton.{Automaton, timers, modeAt, Proper}
+use Rattle.semantics.specs.Automata.Proper.{Proper}
+use Rattle.semantics.specs.Automaton.{Automaton, timers, modeAt}
 use Rattle.semantics.specs.Region.{PricedRegion, WellFormed, count, top, leave, arrive}
 use Rattle.semantics.specs.Run.{Stays}
 use Rattle.semantics.specs.Chain.{chain}

@@ -7,7 +7,8 @@ use mathlib.Core.List.{List, [], _∷_, _++_, List·Memᴰ·head}
 use Prim.Native.Nat.{ℕ, zero, suc, pred, _+_, _*_, _<_}
 use native.Mathlib.Omega.{arith}
 use lib.ListN.{length}
-use Rattle.semantics.specs.Automaton.{Automaton, timers, modeAt, moveAt, Proper}
+use Rattle.semantics.specs.Automata.Proper.{Proper}
+use Rattle.semantics.specs.Automaton.{Automaton, timers, modeAt, moveAt}
 use Rattle.semantics.specs.Region.{start}
 use Rattle.semantics.specs.Run.{State, initial, Act, wait, move, among, zeroed, after, AllHold, Stays, AllAllowed, final, chargeFrom, charge}
 use Rattle.semantics.specs.Chain.{chain, follow}

@@ -12,7 +12,8 @@ use native.Mathlib.Nat.{mul-assoc, mul-pos}
 use native.Mathlib.Omega.{arith}
 use lib.ListN.{length, getD}
 use Rattle.semantics.specs.Condition.{Comparison, less, atMost, equal, atLeast, greater, Compares, Condition, Holds, holds, holdAtZero}
-use Rattle.semantics.specs.Automaton.{Mode, Move, Automaton, timers, modeAt, moveAt, OnTimers, Proper}
+use Rattle.semantics.specs.Automata.Proper.{OnTimers, Proper}
+use Rattle.semantics.specs.Automaton.{Mode, Move, Automaton, timers, modeAt, moveAt}
 use Rattle.semantics.specs.Region.{PricedRegion, WellFormed, meetsAll, within}
 use Rattle.semantics.specs.Run.{AllHold, BelowCeilings, Stays}
 use Rattle.semantics.specs.Regions.Compare.{Alike, below, even, alike-compares, holds-true, and-true-iff}

@@ -5,7 +5,8 @@ use mathlib.Core.Path.{_≡_, refl, ap, subst}
 use mathlib.Core.Logic.{⊎-elim}
 use Prim.Native.Nat.{ℕ, zero, suc, _+_, _*_, _<_}
 use native.Mathlib.Omega.{arith}
-use Rattle.semantics.specs.Automaton.{Automaton, modeAt, Proper}
+use Rattle.semantics.specs.Automata.Proper.{Proper}
+use Rattle.semantics.specs.Automaton.{Automaton, modeAt}
 use Rattle.semantics.specs.Region.{PricedRegion, WellFormed, count, top}
 use Rattle.semantics.specs.Run.{Stays}
 use Rattle.semantics.specs.Regions.Count.{count-place}

@@ -11,7 +11,8 @@ use native.Mathlib.Omega.{arith}
 use borrow.Author.Tests.{lt-ltb}
 use lib.Dec.{ltb}
 use lib.ListN.{length, getD}
-use Rattle.semantics.specs.Automaton.{Automaton, timers, modeAt, moveAt, Proper}
+use Rattle.semantics.specs.Automata.Proper.{Proper}
+use Rattle.semantics.specs.Automaton.{Automaton, timers, modeAt, moveAt}
 use Rattle.semantics.specs.Region.{PricedRegion, WellFormed, count, top, start, leave, arrive, meetsAll}
 use Rattle.semantics.specs.Chain.{Place, follow, begin, chain, movesOf}
 use Rattle.semantics.specs.Corners.Edges.{Edge}

@@ -23,18 +23,18 @@ sameList-eq (x ∷ xs) (y ∷ ys) t =
     let p = and-true-iff (eqb x y) (sameList xs ys) .0 t in
     ap₂ (λ (a : ℕ) (l : List ℕ). a ∷ l) (eqb-true x y (p .0)) (sameList-eq xs ys (p .1))
 
-pub sameList-refl : (l : List ℕ) → sameList l l ≡ true
+sameList-refl : (l : List ℕ) → sameList l l ≡ true
 sameList-refl [] = refl
 sameList-refl (x ∷ l) = and-true-iff (eqb x x) (sameList l l) .1 (eq-eqb x x refl, sameList-refl l)
 
-pub sameCorner-eq : (c d : Corner) → sameCorner c d ≡ true → c ≡ d
+sameCorner-eq : (c d : Corner) → sameCorner c d ≡ true → c ≡ d
 sameCorner-eq c d t =
     let p = and-true-iff (eqb (c .index) (d .index)) (sameList (c .group) (d .group)) .0 t in
     let g = sameList-eq (c .group) (d .group) (p .1) in
     let i = eqb-true (c .index) (d .index) (p .0) in
     λ k. record { group = g k; index = i k }
 
-pub sameCorner-refl : (c : Corner) → sameCorner c c ≡ true
+sameCorner-refl : (c : Corner) → sameCorner c c ≡ true
 sameCorner-refl c =
     and-true-iff (eqb (c .index) (c .index)) (sameList (c .group) (c .group)) .1 (eq-eqb (c .index) (c .index) refl, sameList-refl (c .group))
 

@@ -16,7 +16,7 @@ pub record Piece {A : Type 0} (s l : List A) (p : ℕ) : Type 0 where
   pub entry : (i : ℕ) (d : A) → i < length s → getD l (p + i) d ≡ getD s i d
 
 module _ {A : Type 0} where
-  pub piece-left : (s t : List A) → Piece s (s ++ t) 0
+  piece-left : (s t : List A) → Piece s (s ++ t) 0
   piece-left s t = record {
     fits = omega (arith, length-append s t);
     entry = λ i d h. rw zero-add (List·getD-append s t d i h);

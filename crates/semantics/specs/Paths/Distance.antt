@@ -72,7 +72,7 @@ module _ (g : Graph) (closed : Closed g) (d : ℕ → Entry) (attained : Attaine
       (lesser q (cost-fewer (costOf q) (costOf (e ∷ q)) (omega arith) (omega arith)) (e .to) (closed v e h (w .0)) (w .1)))
 
   -- No path costs less than the entry of its first node.
-  pub no-less : (v : ℕ) (p : List Edge) → v < g .nodes → IsPath g v p → Within (d v) (costOf p)
+  no-less : (v : ℕ) (p : List Edge) → v < g .nodes → IsPath g v p → Within (d v) (costOf p)
   no-less v p h w = cost-induction costOf Covered covered p v h w
 
   pub least-costs : LeastCosts g d

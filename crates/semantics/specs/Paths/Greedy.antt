@@ -86,11 +86,11 @@ module _ (s : System) (d : ℕ → Entry) (x : s .State) (c : Cost) where
       at (yes e) ih = rw (here e)
       at (no ne) ih = rw (ih (omega arith)) (or-true (adds-at j))
 
-  pub completes-true : completes s d x c ≡ true → Completes s d x c
+  completes-true : completes s d x c ≡ true → Completes s d x c
   unfolding completes
   completes-true t = some-true (s .corners x) (omega arith) t
 
-  pub true-completes : Completes s d x c → completes s d x c ≡ true
+  true-completes : Completes s d x c → completes s d x c ≡ true
   unfolding completes
   true-completes t = true-some t (s .corners x) (t .among)
 

@@ -19,7 +19,7 @@ labels-trans (a ∷ ks) (b ∷ ls) (c ∷ ms) (inl x) (inr y) = inl (omega arith
 labels-trans (a ∷ ks) (b ∷ ls) (c ∷ ms) (inr x) (inl y) = inl (omega arith)
 labels-trans (a ∷ ks) (b ∷ ls) (c ∷ ms) (inr x) (inr y) = inr (omega arith, labels-trans ks ls ms (x .1) (y .1))
 
-pub labels-antisymm : (ls ms : List ℕ) → ls ⊑ ms → ms ⊑ ls → ls ≡ ms
+labels-antisymm : (ls ms : List ℕ) → ls ⊑ ms → ms ⊑ ls → ls ≡ ms
 labels-antisymm [] [] h k = refl
 labels-antisymm [] (m ∷ ms) h k = absurd k
 labels-antisymm (l ∷ ls) [] h k = absurd h
@@ -28,7 +28,7 @@ labels-antisymm (l ∷ ls) (m ∷ ms) (inl x) (inr y) = absurd (omega arith)
 labels-antisymm (l ∷ ls) (m ∷ ms) (inr x) (inl y) = absurd (omega arith)
 labels-antisymm (l ∷ ls) (m ∷ ms) (inr x) (inr y) = let e = labels-antisymm ls ms (x .1) (y .1) in cc
 
-pub first-unique : {Good : List ℕ → Type 0} (ls ms : List ℕ) → First Good ls → First Good ms → ls ≡ ms
+first-unique : {Good : List ℕ → Type 0} (ls ms : List ℕ) → First Good ls → First Good ms → ls ≡ ms
 first-unique ls ms x y = labels-antisymm ls ms (x .first ms (y .good)) (y .first ls (x .good))
 
 -- The first good list begins with the least label l with which a good list begins, and after it comes the first of what may follow l.

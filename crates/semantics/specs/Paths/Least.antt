@@ -16,7 +16,7 @@ module _ (g : Graph) (v : ℕ) where
   pub no-less-cost : (c b : Cost) → Least g v c → HasCost g v b → c ≼ b
   no-less-cost c b l r = rw (← r .charged, ← r .counted) (l .least (r .path) (r .is-path))
 
-  pub least-unique : (c b : Cost) → Least g v c → Least g v b → c ≡ b
+  least-unique : (c b : Cost) → Least g v c → Least g v b → c ≡ b
   least-unique c b x y = cost-antisymm c b (no-less-cost c b x (y .attained)) (no-less-cost b c y (x .attained))
 
 module _ (g : Graph) (closed : Closed g) (v : ℕ) (h : v < g .nodes) (c : Cost) (l : Least g v c) where

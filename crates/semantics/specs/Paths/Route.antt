@@ -92,7 +92,7 @@ module _ {g : Graph} {s : System} {Valid : s .State → Type 0} {d : ℕ → Ent
             (bound-path (b .corner) (b .path) (b .among) (b .is-path)) (inr (omega arith))
 
     -- From a state from which c can be completed some labels arrive at c.
-    pub completes-arrives : Completes s d x c → (ls : List ℕ) × ArrivesAt g s x c ls
+    completes-arrives : Completes s d x c → (ls : List ℕ) × ArrivesAt g s x c ls
     completes-arrives t =
         let v = s .node x (t .corner) in
         let p = r .exact .least v (cost (t .left) (c .steps)) (r .laws .inside x (t .corner) ok (t .among)) (t .entry) .attained in

@@ -131,7 +131,7 @@ module _ (g : Graph) (s : ℕ) where
   }
 
   -- An edge before a path.
-  pub cost-before : (v : ℕ) (e : Edge) (b : Cost) → Leaves g v e → HasCost g (e .to) b → HasCost g v (along e b)
+  cost-before : (v : ℕ) (e : Edge) (b : Cost) → Leaves g v e → HasCost g (e .to) b → HasCost g v (along e b)
   cost-before v e b l r =
       record { path = e ∷ r .path; is-path = (l, r .is-path); charged = omega (arith, r .charged); counted = omega (arith, r .counted) }
 

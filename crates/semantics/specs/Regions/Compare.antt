@@ -10,7 +10,7 @@ use borrow.Author.Tests.{ltb-true, lt-ltb, leb-true, le-leb, eqb-true, eq-eqb}
 use Rattle.semantics.specs.Condition.{Comparison, less, atMost, equal, atLeast, greater, Compares, compares, Condition, Holds, holds}
 
 -- The test of a comparison says what it is to say.
-pub compares-true : (k : Comparison) (a b : ℕ) → (compares k a b ≡ true) ↔ Compares k a b
+compares-true : (k : Comparison) (a b : ℕ) → (compares k a b ≡ true) ↔ Compares k a b
 compares-true less a b = (ltb-true a b, lt-ltb a b)
 compares-true atMost a b = (leb-true a b, le-leb a b)
 compares-true equal a b = (eqb-true a b, eq-eqb a b)

@@ -28,10 +28,10 @@ pub record SameTimers (r s : PricedRegion) : Type 0 where
   pub whole : length (s .whole) ≡ length (r .whole)
   pub group : length (s .group) ≡ length (r .group)
 
-pub same-refl : (r : PricedRegion) → SameTimers r r
+same-refl : (r : PricedRegion) → SameTimers r r
 same-refl r = record { whole = refl; group = refl }
 
-pub same-trans : {r s t : PricedRegion} → SameTimers r s → SameTimers s t → SameTimers r t
+same-trans : {r s t : PricedRegion} → SameTimers r s → SameTimers s t → SameTimers r t
 same-trans a b = record { whole = b .whole ∙ a .whole; group = b .group ∙ a .group }
 
 pub start-timers : (n : ℕ) → (length (start n .whole) ≡ n) × (length (start n .group) ≡ n)

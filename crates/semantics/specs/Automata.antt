@@ -1,0 +1,2 @@
+-- What is asked of automata.
+pub mod Proper

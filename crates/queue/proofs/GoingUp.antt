@@ -1,16 +1,16 @@
 -- The turns of the loop that raises a node.
 -- Assumes nothing.
-use mathlib.Core.Path.{_≡_, refl, sym, ap, _∙_, subst}
+use mathlib.Core.Path.{_≡_, refl, _∙_, subst}
 use mathlib.Core.Logic.{_⊎_, inl, inr, _≢_, ⊎-elim}
 use mathlib.Core.List.{List}
-use Prim.Native.Nat.{ℕ, suc, _+_, _*_, _/_, _≤_, _<_}
+use Prim.Native.Nat.{ℕ, _+_, _/_, _≤_, _<_}
 use native.Mathlib.Omega.{arith}
-use Rattle.queue.specs.Tournament.{none, Before, Match}
+use Rattle.queue.specs.Tournament.{Before, Match}
 use Rattle.queue.specs.Tournaments.Raising.{Raising, raise-up, raise-stop, raise-end}
-use Rattle.queue.specs.Queue.{lows, slotAt, key, players, Sound}
+use Rattle.queue.specs.Queue.{lows, slotAt, key, players, Seated, Sound}
 use Rattle.queue.specs.Playing.{keyIn, put, GoneUp}
 use Rattle.queue.specs.Laws.Pendings.{key-own}
-use Rattle.queue.proofs.Slots.{Seated, put-puts, put-lows, put-sound, match-lows}
+use Rattle.queue.proofs.Slots.{put-puts, put-lows, put-sound, match-lows}
 
 -- The node has come up to the match at x.
 pub record Rising (nodes node : ℕ) (ws ws′ : List ℕ) (x : ℕ) : Type 0 where

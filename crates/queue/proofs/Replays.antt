@@ -1,16 +1,16 @@
 -- The turns of the loop that settles a node.
 -- Assumes nothing.
-use mathlib.Core.Path.{_≡_, refl, sym, ap, _∙_, subst}
-use mathlib.Core.Logic.{_⊎_, inl, inr, _≢_, ⊎-elim}
+use mathlib.Core.Path.{_≡_, refl, sym, _∙_, subst}
+use mathlib.Core.Logic.{_⊎_, inl, ⊎-elim}
 use mathlib.Core.List.{List}
 use Prim.Native.Nat.{ℕ, suc, _+_, _*_, _-_, _/_, _≤_, _<_}
 use native.Mathlib.Omega.{arith}
 use Rattle.queue.specs.Tournament.{none, winner, Match, AllFair}
 use Rattle.queue.specs.Tournaments.Replaying.{Replaying, replay-start, replay-up, replay-end}
-use Rattle.queue.specs.Queue.{lows, slotAt, key, players, Sound, Settling, Settled}
+use Rattle.queue.specs.Queue.{lows, slotAt, key, players, Seated, Sound, Settling, Settled}
 use Rattle.queue.specs.Playing.{keyIn, put}
 use Rattle.queue.specs.Laws.Changes.{settle-without}
-use Rattle.queue.proofs.Slots.{Seated, put-puts, put-lows, put-sound, match-lows}
+use Rattle.queue.proofs.Slots.{put-puts, put-lows, put-sound, match-lows}
 use Rattle.queue.proofs.Winning.{won-seated}
 
 -- The matches up to place x were played again, once all keys up to `settled` are.

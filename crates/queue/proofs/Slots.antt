@@ -8,10 +8,10 @@ use native.Mathlib.Decide.{ℕ-discrete}
 use native.Mathlib.Omega.{arith}
 use lib.ListN.{length, length-set}
 use lib.Seq.{getD-set-same, getD-set-other}
-use Rattle.semantics.specs.Path.{chargeAt, stepsAt}
+use Rattle.semantics.specs.Path.{stepsAt}
 use Rattle.queue.specs.Tournament.{none, Before, Match, Put}
 use Rattle.queue.specs.Tournaments.Matches.{before-refl}
-use Rattle.queue.specs.Queue.{lows, slotAt, keyOf, key, Sound}
+use Rattle.queue.specs.Queue.{lows, slotAt, key, Seated, Sound}
 use Rattle.queue.specs.Playing.{keyIn, Seat, put}
 use Rattle.queue.specs.Laws.Lows.{lows-charge, lows-steps, lows-same}
 
@@ -26,10 +26,6 @@ match-right keys a b h = record { one = inr refl; left = h; right = before-refl 
 pub seat-words : (ws : List ℕ) (a : ℕ) → Seat ws a → a ≢ none → (a < none) × (2 * a + 1 < length ws)
 seat-words ws a (inl e) n = absurd (n e)
 seat-words ws a (inr h) n = h
-
--- a is nobody, or one of the nodes.
-abbrev pub Seated : ℕ → ℕ → Type 0
-Seated nodes a = (a ≡ none) ⊎ (a < nodes)
 
 module _ (nodes : ℕ) (ws : List ℕ) (sound : Sound nodes ws) where
   pub seat : (a : ℕ) → Seated nodes a → Seat ws a

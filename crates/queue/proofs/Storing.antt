@@ -1,20 +1,19 @@
 -- Storing a cost below a slot.
 -- Assumes nothing.
-use mathlib.Core.Path.{_≡_, refl, sym, ap, _∙_, subst}
-use mathlib.Core.Logic.{_⊎_, inl, inr, _≢_}
+use mathlib.Core.Path.{_≡_, sym, ap, _∙_, subst}
 use mathlib.Core.List.{List}
-use Prim.Native.Nat.{ℕ, suc, _+_, _*_, _/_, _%_, _≤_, _<_}
+use Prim.Native.Nat.{ℕ, _+_, _*_, _/_, _%_, _<_}
 use native.Mathlib.Decide.{ℕ-discrete}
 use native.Mathlib.Omega.{arith}
 use lib.ListN.{length, set, length-set}
 use lib.Seq.{getD-set-same, getD-set-other}
 use Rattle.semantics.specs.Path.{cost}
 use Rattle.semantics.specs.Paths.Words.{stored}
-use Rattle.queue.specs.Tournament.{none, AllFair}
+use Rattle.queue.specs.Tournament.{AllFair}
 use Rattle.queue.specs.Tournaments.Raising.{raise-start}
-use Rattle.queue.specs.Queue.{lows, slotAt, keyOf, players, Sound, Queue, Lowering, Lowered}
+use Rattle.queue.specs.Queue.{lows, slotAt, players, Seated, Sound, Lowering, Lowered}
 use Rattle.queue.specs.Playing.{GoneUp}
-use Rattle.queue.specs.Laws.Lows.{lows-length, lows-set-charge, lows-set-steps, costs-length}
+use Rattle.queue.specs.Laws.Lows.{lows-length, lows-set-charge, lows-set-steps}
 use Rattle.queue.specs.Laws.Pendings.{own-leaves}
 use Rattle.queue.specs.Laws.Changes.{lower-raised}
 
@@ -68,7 +67,7 @@ module _ (nodes v charge steps : ℕ) (ws : List ℕ) (low : Lowering nodes v ch
         room =
             omega
             (arith, s .room, length-set ws (2 * v) charge, length-set (set ws (2 * v) charge) (2 * v + 1) (slotAt ws v * 65536 + steps));
-        slots = λ z o k. subst (λ (a : ℕ). (a ≡ none) ⊎ (a < nodes)) (sym (cost-slot z)) (s .slots z o k);
+        slots = λ z o k. subst (λ (a : ℕ). Seated nodes a) (sym (cost-slot z)) (s .slots z o k);
       }
 
   pub lowered : (ws′ : List ℕ) → GoneUp nodes v us ws′ → Lowered nodes v charge steps ws ws′
@@ -90,6 +89,3 @@ module _ (nodes v charge steps : ℕ) (ws : List ℕ) (low : Lowering nodes v ch
                   (lower-raised ts v charge steps (omega (arith, room, lows-length nodes ws)) upto (low .known) (low .fits) (low .less) still))));
             };
       }
-
-  pub lowered-length : (ws′ : List ℕ) → GoneUp nodes v us ws′ → length ws′ ≡ length ws
-  lowered-length ws′ up = costs-length nodes us ws′ (up .costs) ∙ simp length-set

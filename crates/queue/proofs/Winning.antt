@@ -1,19 +1,19 @@
 -- The winner at a place, as the code finds it.
 -- Assumes nothing.
-use mathlib.Core.Path.{_≡_, refl, sym, ap, _∙_, subst}
+use mathlib.Core.Path.{_≡_, sym, _∙_, subst}
 use mathlib.Core.Logic.{_⊎_, inl, inr, _≢_}
 use mathlib.Core.List.{List}
-use Prim.Native.Nat.{ℕ, suc, _+_, _*_, _-_, _≤_, _<_}
+use Prim.Native.Nat.{ℕ, suc, _*_, _-_, _≤_, _<_}
 use native.Mathlib.Decide.{decLt}
 use native.Mathlib.Omega.{arith}
 use Rattle.semantics.specs.Path.{infinity, chargeAt}
 use Rattle.queue.specs.Tournament.{none, winner}
 use Rattle.queue.specs.Tournaments.Matches.{winner-slot, winner-leaf}
-use Rattle.queue.specs.Queue.{lows, slotAt, key, players, Sound}
+use Rattle.queue.specs.Queue.{lows, slotAt, players, Seated, Sound}
 use Rattle.queue.specs.Playing.{keyIn}
 use Rattle.queue.specs.Laws.Lows.{lows-charge}
 use Rattle.queue.specs.Laws.Pendings.{entrant-in, entrant-out, own-leaves}
-use Rattle.queue.proofs.Slots.{Seated, key-lows}
+use Rattle.queue.proofs.Slots.{key-lows}
 
 module _ (nodes : ℕ) (ws : List ℕ) (sound : Sound nodes ws) (settled z : ℕ) where
   abbrev won : ℕ

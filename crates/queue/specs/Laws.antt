@@ -3,3 +3,4 @@ pub mod Lows
 pub mod Pendings
 pub mod First
 pub mod Changes
+pub mod Once

@@ -3,10 +3,10 @@
 use mathlib.Core.Path.{_≡_}
 use mathlib.Core.Logic.{_⊎_}
 use mathlib.Core.List.{List}
-use Prim.Native.Nat.{ℕ, suc, _+_, _*_, _/_, _%_, _≤_, _<_}
+use Prim.Native.Nat.{ℕ, _+_, _*_, _/_, _%_, _≤_, _<_}
 use lib.ListN.{length, set}
 use Rattle.semantics.specs.Path.{chargeAt, stepsAt}
-use Rattle.queue.specs.Tournament.{none, AllFair, winner}
+use Rattle.queue.specs.Tournament.{none, AllFair}
 use Rattle.queue.specs.Tournaments.Raising.{Raising}
 use Rattle.queue.specs.Queue.{lows, slotAt, keyOf, players, Sound}
 

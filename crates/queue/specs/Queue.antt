@@ -42,12 +42,16 @@ pends upto ts v = cond (eqb (chargeAt ts v) infinity) false (leb upto (key ts v)
 abbrev pub players : ℕ → List ℕ → Players
 players upto ts = record { entrant = λ v. cond (pends upto ts v) v none; key = λ v. key ts v }
 
+-- a is nobody, or one of the nodes.
+abbrev pub Seated : ℕ → ℕ → Type 0
+Seated nodes a = (a ≡ none) ⊎ (a < nodes)
+
 -- The words have room for the nodes, and each slot holds a node or nobody.
 pub record Sound (nodes : ℕ) (ws : List ℕ) : Type 0 where
   pub two : 2 ≤ nodes
   pub few : nodes ≤ none
   pub room : 2 * nodes ≤ length ws
-  pub slots : (z : ℕ) → 1 ≤ z → z < nodes → (slotAt ws z ≡ none) ⊎ (slotAt ws z < nodes)
+  pub slots : (z : ℕ) → 1 ≤ z → z < nodes → Seated nodes (slotAt ws z)
 
 -- The words hold the queue of the nodes that are pending.
 pub record Queue (nodes upto : ℕ) (ws : List ℕ) : Type 0 where

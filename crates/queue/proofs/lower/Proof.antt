@@ -3,13 +3,12 @@ use Prim.Native.Nat.{_+_, _*_}
 use native.Mathlib.Omega.{arith}
 use denote.Ref.{now}
 use lib.ListN.{length-set}
-use Rattle.queue.proofs.Storing.{cost-sound, lowered, lowered-length}
+use Rattle.semantics.specs.Path.{cost}
+use Rattle.queue.specs.Laws.Lows.{lowered-length}
+use Rattle.queue.proofs.Storing.{cost-sound, lowered}
 use borrow.Author.Needs.{needs}
 use Rattle.queue.proofs.lower.Statement.{statement}
 use Rattle.queue.proofs.lower.Tie as tie
-use Rattle.queue.proofs.lower.Reads as reads
-use Rattle.queue.proofs.lower.Lts as lts
-use Rattle.queue.proofs.raise.Reads as raise-reads
 
 mul-high : tie.Need-mul-high
 mul-high c = search needs
@@ -57,17 +56,17 @@ raise-requires c κs =
     let a = s .args in
     (cost-sound (a .nodes) (a .node) (a .charge) (a .steps) (now (a .words)) (s .pre), s .pre .there)
 
-same-length : tie.Need-same-length
-same-length c =
-    let s = c .before .before .before .before .before .before in
-    let a = s .args in
-    lowered-length (a .nodes) (a .node) (a .charge) (a .steps) (now (a .words)) (s .pre) (c .before .before .raise .last .0) (c .before .before .raise .ensures)
-
 returns : tie.Need-returns
 returns c =
     let s = c .before .before .before .before .before .before in
     let a = s .args in
     lowered (a .nodes) (a .node) (a .charge) (a .steps) (now (a .words)) (s .pre) (c .before .before .raise .last .0) (c .before .before .raise .ensures)
+
+same-length : tie.Need-same-length
+same-length c =
+    let a = c .before .before .before .before .before .before .args in
+    lowered-length (a .nodes) (now (a .words)) (c .before .before .raise .last .0) (a .node) (cost (a .charge) (a .steps))
+    (returns c .costs)
 
 pub lower-spec : {M : Type 1} → statement M
 lower-spec =

@@ -1,21 +1,13 @@
 -- `raise` meets its contract. The loop's invariant: the node has come up to this place. Assumes nothing.
-use mathlib.Core.Path.{_≡_}
-use mathlib.Core.Logic.{inl, inr}
+use mathlib.Core.Logic.{inr}
 use Prim.Native.Nat.{_≤_}
 use native.Mathlib.Omega.{arith}
 use denote.Ref.{now}
-use lib.ListN.{length}
-use borrow.Author.Needs.{needs}
 use Rattle.queue.specs.Laws.Lows.{costs-length}
 use Rattle.queue.proofs.Slots.{seat}
 use Rattle.queue.proofs.GoingUp.{Rising, rising-start, rising-up, rising-stop, rising-end}
 use Rattle.queue.proofs.raise.Statement.{statement}
 use Rattle.queue.proofs.raise.Tie as tie
-use Rattle.queue.proofs.raise.Reads as reads
-use Rattle.queue.proofs.raise.Lts as lts
-use Rattle.queue.proofs.play.Reads as play-reads
-use Rattle.queue.proofs.set_slot.Reads as set-slot-reads
-use Rattle.queue.proofs.slot.Reads as slot-reads
 
 abbrev Inv-loop : tie.InvT-loop
 Inv-loop words₀ nodes node place₀ words place = Rising nodes node words₀ words place

@@ -3,19 +3,12 @@ use mathlib.Core.Path.{_≡_, sym, _∙_}
 use mathlib.Core.Logic.{⊎-elim}
 use native.Mathlib.Omega.{arith}
 use denote.Ref.{now}
-use borrow.Author.Needs.{needs}
 use Rattle.queue.specs.Queue.{lows, key}
 use Rattle.queue.specs.Laws.Lows.{costs-length}
 use Rattle.queue.proofs.Slots.{seat, key-lows}
 use Rattle.queue.proofs.Replays.{Replayed, replayed-start, beside-seated, match-seated, replayed-up, replayed-end}
 use Rattle.queue.proofs.settle.Statement.{statement}
 use Rattle.queue.proofs.settle.Tie as tie
-use Rattle.queue.proofs.settle.Reads as reads
-use Rattle.queue.proofs.settle.Lts as lts
-use Rattle.queue.proofs.key.Reads as key-reads
-use Rattle.queue.proofs.play.Reads as play-reads
-use Rattle.queue.proofs.set_slot.Reads as set-slot-reads
-use Rattle.queue.proofs.winner.Reads as winner-reads
 
 abbrev Inv-loop : tie.InvT-loop
 Inv-loop words₀ nodes node settled place₀ best₀ words place best = (settled ≡ key (lows nodes words₀) node) × Replayed nodes settled words₀ words place best

@@ -1,8 +1,7 @@
 -- How the players change: one is lowered, or the first is settled. And each node is settled once.
 -- Assumes nothing.
-use mathlib.Core.Path.{_≡_, refl, sym, ap, _∙_, subst}
-use mathlib.Core.Bool.{Bool, true, false, cond}
-use mathlib.Core.Logic.{_⊎_, inl, inr, _≢_}
+use mathlib.Core.Path.{_≡_, sym, subst}
+use mathlib.Core.Logic.{inl, inr, _≢_}
 use mathlib.Core.List.{List}
 use Prim.Native.Nat.{ℕ, suc, _+_, _*_, _≤_, _<_}
 use native.Mathlib.Decide.{ℕ-discrete}
@@ -10,7 +9,7 @@ use native.Mathlib.Omega.{arith}
 use lib.ListN.{length}
 use Rattle.semantics.specs.Path.{cost, _≺_, infinity, chargeAt, stepsAt}
 use Rattle.semantics.specs.Paths.Words.{stored, stored-charge, stored-steps, other-charge, other-steps}
-use Rattle.queue.specs.Tournament.{none, Before}
+use Rattle.queue.specs.Tournament.{Before}
 use Rattle.queue.specs.Tournaments.Raising.{Raised}
 use Rattle.queue.specs.Tournaments.Replaying.{Without}
 use Rattle.queue.specs.Queue.{lows, slotAt, keyOf, key, Pending, players, Queue}

@@ -1,17 +1,17 @@
 -- Slot 1 of a queue: the first of the pending nodes, or nobody if none is pending. And the empty queue.
 -- Assumes nothing.
-use mathlib.Core.Path.{_≡_, refl, sym, ap, _∙_, subst}
-use mathlib.Core.Logic.{_⊎_, inl, inr, _≢_}
+use mathlib.Core.Path.{_≡_, sym, ap, _∙_, subst}
+use mathlib.Core.Logic.{inl, inr, _≢_}
 use mathlib.Core.List.{List, _++_}
-use Prim.Native.Nat.{ℕ, suc, _+_, _*_, _-_, _/_, _≤_, _<_}
+use Prim.Native.Nat.{ℕ, _+_, _*_, _-_, _/_, _≤_, _<_}
 use native.Mathlib.Decide.{decLt}
 use native.Mathlib.Omega.{arith}
-use lib.ListN.{length, getD, replicate, length-append, length-replicate, getD-replicate, List·getD-append}
+use lib.ListN.{getD, replicate, length-append, length-replicate, getD-replicate, List·getD-append}
 use Rattle.semantics.specs.Path.{infinity, chargeAt}
-use Rattle.queue.specs.Tournament.{none, Players, Before, winner, Fair}
+use Rattle.queue.specs.Tournament.{none, Before, winner}
 use Rattle.queue.specs.Tournaments.Matches.{winner-slot, winner-leaf}
-use Rattle.queue.specs.Tournaments.Least.{least, Entered, entered}
-use Rattle.queue.specs.Queue.{lows, slotAt, key, Pending, players, Sound, Queue}
+use Rattle.queue.specs.Tournaments.Least.{least, entered}
+use Rattle.queue.specs.Queue.{lows, slotAt, key, Pending, players, Queue}
 use Rattle.queue.specs.Laws.Lows.{lows-charge}
 use Rattle.queue.specs.Laws.Pendings.{entrant-in, entrant-out, in-pending, own-leaves}
 
@@ -60,6 +60,10 @@ module _ (nodes upto : ℕ) (rest : List ℕ) (two : 2 ≤ nodes) (few : nodes �
   unfolding blank
   blank-word i h =
       List·getD-append (replicate (2 * nodes) infinity) rest 0 i (rw length-replicate h) ∙ getD-replicate (2 * nodes) i infinity 0 h
+
+  pub empty-unreached : (v : ℕ) → v < nodes → chargeAt (lows nodes (replicate (2 * nodes) infinity ++ rest)) v ≡ infinity
+  unfolding blank
+  empty-unreached v h = lows-charge nodes blank v ∙ blank-word (2 * v) (omega arith)
 
   blank-winner : (z : ℕ) → z < 2 * nodes → winner nodes (players upto (lows nodes blank)) (slotAt blank) z ≡ none
   blank-winner z h = at (decLt z nodes)

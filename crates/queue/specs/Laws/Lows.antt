@@ -6,7 +6,8 @@ use Prim.Native.Nat.{ℕ, zero, suc, pred, _+_, _*_, _%_, _<_}
 use native.Mathlib.Omega.{arith}
 use lib.ListN.{length, getD, set, drop}
 use lib.Seq.{set-getD}
-use Rattle.semantics.specs.Path.{chargeAt, stepsAt}
+use Rattle.semantics.specs.Path.{Cost, chargeAt, stepsAt}
+use Rattle.semantics.specs.Paths.Words.{stored, stored-length, stored-rest}
 use Rattle.queue.specs.Queue.{lows}
 
 even-entry : (n : ℕ) (ws : List ℕ) (j v : ℕ) → j ≡ 2 * v → getD (lows n ws) j 0 ≡ getD ws j 0
@@ -97,3 +98,12 @@ module _ (n : ℕ) (ws us : List ℕ) (same : lows n us ≡ lows n ws) where
 
   pub costs-rest : drop (2 * n) us ≡ drop (2 * n) ws
   costs-rest = sym (lows-rest n us) ∙ ap (λ (l : List ℕ). drop (2 * n) l) same ∙ lows-rest n ws
+
+-- And so are those in which a cost was stored.
+module _ (n : ℕ) (ws us : List ℕ) (v : ℕ) (c : Cost) (same : lows n us ≡ stored (lows n ws) v c) where
+  pub lowered-length : length us ≡ length ws
+  lowered-length = sym (lows-length n us) ∙ ap length same ∙ stored-length (lows n ws) v c ∙ lows-length n ws
+
+  pub lowered-rest : v < n → drop (2 * n) us ≡ drop (2 * n) ws
+  lowered-rest h =
+      sym (lows-rest n us) ∙ ap (λ (l : List ℕ). drop (2 * n) l) same ∙ stored-rest (lows n ws) v c n h ∙ lows-rest n ws

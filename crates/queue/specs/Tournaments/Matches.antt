@@ -3,12 +3,12 @@
 -- Assumes nothing.
 use mathlib.Core.Path.{_≡_, refl, sym, _∙_, subst, subst₂}
 use mathlib.Core.Logic.{_⊎_, inl, inr, _≢_}
-use Prim.Native.Nat.{ℕ, _+_, _-_, _/_, _≤_, _<_}
+use Prim.Native.Nat.{ℕ, _-_, _/_, _≤_, _<_}
 use native.Mathlib.Decide.{ℕ-discrete, decLt}
 use native.Mathlib.Nat.{le-refl}
 use native.Mathlib.Omega.{arith}
 use borrow.Author.Tests.{lt-ltb, le-ltb}
-use Rattle.queue.specs.Tournament.{none, Players, Before, winner, Won, Fair, OnWay, here, up, Put}
+use Rattle.queue.specs.Tournament.{none, Players, Before, winner, Fair, OnWay, here, up, Put}
 
 module _ (key : ℕ → ℕ) where
   pub before-refl : (a : ℕ) → Before key a a

@@ -7,7 +7,7 @@ use native.Mathlib.Decide.{ℕ-discrete}
 use native.Mathlib.Omega.{arith}
 use Rattle.queue.specs.Tournament.{none, Players, OwnLeaves, Before, winner, Won, Fair, AllFair, OnWay, here, up, Put}
 use Rattle.queue.specs.Tournaments.Matches.{before-refl, before-same, before-trans, winner-slot, winner-leaf, winner-same, fair-same, way-on, way-next, way-zero, FairButOn, fair-next, fair-done}
-use Rattle.queue.specs.Tournaments.Least.{Entered, entered}
+use Rattle.queue.specs.Tournaments.Least.{entered}
 
 -- The match at z is fair, but for v: v may come before the winner.
 pub record FairButFor (nodes : ℕ) (p : Players) (slots : ℕ → ℕ) (v z : ℕ) : Type 0 where

@@ -143,3 +143,13 @@ pub fn settle(words: &mut [u32], nodes: usize, node: usize)
         place = up;
     }
 }
+
+// The slots go: what is left of the words are the costs.
+pub fn clear_slots(words: &mut [u32], nodes: usize)
+    requires { ⌜ 2 * nodes ≤ length (now words) ⌝ }
+    ensures { λ _. ⌜ now (words .exit) ≡ lows nodes (now (words .entry)) ⌝ }
+{
+    for v in 0..nodes {
+        words[2 * v + 1] = words[2 * v + 1] % HALF;
+    }
+}

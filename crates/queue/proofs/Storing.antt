@@ -11,7 +11,7 @@ use Rattle.semantics.specs.Path.{cost}
 use Rattle.semantics.specs.Paths.Words.{stored}
 use Rattle.queue.specs.Tournament.{AllFair}
 use Rattle.queue.specs.Tournaments.Raising.{raise-start}
-use Rattle.queue.specs.Queue.{lows, slotAt, players, Seated, Sound, Lowering, Lowered}
+use Rattle.queue.specs.Queue.{lows, slotAt, players, Seated, QueueRoom, LowerReady, LowerDone}
 use Rattle.queue.specs.Playing.{GoneUp}
 use Rattle.queue.specs.Laws.Lows.{lows-length, lows-set-charge, lows-set-steps}
 use Rattle.queue.specs.Laws.Pendings.{own-leaves}
@@ -21,7 +21,7 @@ use Rattle.queue.specs.Laws.Changes.{lower-raised}
 abbrev pub putCost : List ℕ → ℕ → ℕ → ℕ → List ℕ
 putCost ws v charge steps = set (set ws (2 * v) charge) (2 * v + 1) (slotAt ws v * 65536 + steps)
 
-module _ (nodes v charge steps : ℕ) (ws : List ℕ) (low : Lowering nodes v charge steps ws) where
+module _ (nodes v charge steps : ℕ) (ws : List ℕ) (low : LowerReady nodes v charge steps ws) where
   abbrev ts : List ℕ
   ts = lows nodes ws
 
@@ -29,7 +29,7 @@ module _ (nodes v charge steps : ℕ) (ws : List ℕ) (low : Lowering nodes v ch
   us = putCost ws v charge steps
 
   room : 2 * v + 1 < length ws
-  room = omega (arith, low .sound .room, low .there)
+  room = omega (arith, low .words .room, low .there)
 
   cost-lows : lows nodes us ≡ stored ts v (cost charge steps)
   cost-lows =
@@ -58,9 +58,9 @@ module _ (nodes v charge steps : ℕ) (ws : List ℕ) (low : Lowering nodes v ch
   cost-slots : slotAt ws ≡ slotAt us
   cost-slots = λ i z. sym (cost-slot z) i
 
-  pub cost-sound : Sound nodes us
-  cost-sound =
-      let s = low .sound in
+  pub cost-words : QueueRoom nodes us
+  cost-words =
+      let s = low .words in
       record {
         two = s .two;
         few = s .few;
@@ -70,20 +70,20 @@ module _ (nodes v charge steps : ℕ) (ws : List ℕ) (low : Lowering nodes v ch
         slots = λ z o k. subst (λ (a : ℕ). Seated nodes a) (sym (cost-slot z)) (s .slots z o k);
       }
 
-  pub lowered : (ws′ : List ℕ) → GoneUp nodes v us ws′ → Lowered nodes v charge steps ws ws′
+  pub lowered : (ws′ : List ℕ) → GoneUp nodes v us ws′ → LowerDone nodes v charge steps ws ws′
   lowered ws′ up =
       record {
         costs = up .costs ∙ cost-lows;
         queue =
             λ upto q still.
             record {
-              sound = up .sound;
+              words = up .words;
               fair =
                   rw (up .costs)
                   (up .fair upto
                   (rw cost-lows
                   (raise-start nodes (players upto ts) (players upto (stored ts v (cost charge steps))) (slotAt us) v (low .there)
-                  (omega (arith, low .sound .few, low .there))
+                  (omega (arith, low .words .few, low .there))
                   (own-leaves upto ts)
                   (subst (λ (s : ℕ → ℕ). AllFair nodes (players upto ts) s) cost-slots (q .fair))
                   (lower-raised ts v charge steps (omega (arith, room, lows-length nodes ws)) upto (low .known) (low .fits) (low .less) still))));

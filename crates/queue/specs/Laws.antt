@@ -1,5 +1,6 @@
 -- What a caller may conclude from the contracts.
 pub mod Lows
+pub mod Keys
 pub mod Pendings
 pub mod First
 pub mod Changes

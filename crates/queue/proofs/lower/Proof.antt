@@ -5,7 +5,7 @@ use denote.Ref.{now}
 use lib.ListN.{length-set}
 use Rattle.semantics.specs.Path.{cost}
 use Rattle.queue.specs.Laws.Lows.{lowered-length}
-use Rattle.queue.proofs.Storing.{cost-sound, lowered}
+use Rattle.queue.proofs.Storing.{cost-words, lowered}
 use borrow.Author.Needs.{needs}
 use Rattle.queue.proofs.lower.Statement.{statement}
 use Rattle.queue.proofs.lower.Tie as tie
@@ -48,19 +48,20 @@ mul-words-5 : tie.Need-mul-words-5
 mul-words-5 c = search needs
 
 slice-write-words-2 : tie.Need-slice-write-words-2
-slice-write-words-2 c = simp length-set (omega (arith, c .before .before .pre .there, c .before .before .pre .sound))
+slice-write-words-2 c = simp length-set (omega (arith, c .before .before .pre .there, c .before .before .pre .words))
 
 raise-requires : tie.Need-raise-requires
 raise-requires c κs =
     let s = c .before .before .before in
     let a = s .args in
-    (cost-sound (a .nodes) (a .node) (a .charge) (a .steps) (now (a .words)) (s .pre), s .pre .there)
+    (cost-words (a .nodes) (a .node) (a .charge) (a .steps) (now (a .words)) (s .pre), s .pre .there)
 
 returns : tie.Need-returns
 returns c =
     let s = c .before .before .before .before .before .before in
     let a = s .args in
-    lowered (a .nodes) (a .node) (a .charge) (a .steps) (now (a .words)) (s .pre) (c .before .before .raise .last .0) (c .before .before .raise .ensures)
+    lowered (a .nodes) (a .node) (a .charge) (a .steps) (now (a .words)) (s .pre) (c .before .before .raise .last .0)
+    (c .before .before .raise .ensures)
 
 same-length : tie.Need-same-length
 same-length c =

@@ -20,12 +20,12 @@ module _ (nodes upto : ℕ) (ws : List ℕ) (queue : Queue nodes upto ws) where
   first-before : (v : ℕ) → v < nodes → Pending upto (lows nodes ws) v → Before (λ u. key (lows nodes ws) u) (slotAt ws 1) v
   first-before v h p =
       subst (λ (a : ℕ). Before (λ u. key (lows nodes ws) u) (slotAt ws 1) a) (entrant-in upto (lows nodes ws) v p)
-      (least nodes (players upto (lows nodes ws)) (slotAt ws) (queue .fair) (queue .sound .two) v h)
+      (least nodes (players upto (lows nodes ws)) (slotAt ws) (queue .fair) (queue .words .two) v h)
 
   -- A node in slot 1 is pending.
   pub first-pending : (u : ℕ) → u < nodes → slotAt ws 1 ≡ u → Pending upto (lows nodes ws) u
   first-pending u h e =
-      let s = queue .sound in
+      let s = queue .words in
       let n : u ≢ none = omega arith in
       in-pending upto (lows nodes ws) u n
       (entered nodes (players upto (lows nodes ws)) (slotAt ws) (queue .fair) (own-leaves upto (lows nodes ws)) 1 u (omega arith) (omega arith)
@@ -40,7 +40,7 @@ module _ (nodes upto : ℕ) (ws : List ℕ) (queue : Queue nodes upto ws) where
   first-least u h e v k p = at (first-before v k p)
     where
       at : Before (λ w. key (lows nodes ws) w) (slotAt ws 1) v → key (lows nodes ws) u ≤ key (lows nodes ws) v
-      at (inl n) = absurd (omega (arith, queue .sound))
+      at (inl n) = absurd (omega (arith, queue .words))
       at (inr b) = subst (λ (w : ℕ). key (lows nodes ws) w ≤ key (lows nodes ws) v) e (b .1)
 
   -- With nobody in slot 1 no node is pending.
@@ -48,7 +48,7 @@ module _ (nodes upto : ℕ) (ws : List ℕ) (queue : Queue nodes upto ws) where
   first-none e v k p = at (first-before v k p)
     where
       at : Before (λ w. key (lows nodes ws) w) (slotAt ws 1) v → ⊥
-      at (inl n) = omega (arith, queue .sound)
+      at (inl n) = omega (arith, queue .words)
       at (inr b) = b .0 e
 
 -- Words that are all infinity are the empty queue.
@@ -83,7 +83,7 @@ module _ (nodes upto : ℕ) (rest : List ℕ) (two : 2 ≤ nodes) (few : nodes �
   unfolding blank
   empty-queue =
       record {
-        sound =
+        words =
             record {
               two = two;
               few = few;

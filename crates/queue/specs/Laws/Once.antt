@@ -12,11 +12,12 @@ use borrow.Author.Tests.{eq-eqb, ne-eqb, le-leb, lt-leb}
 use Rattle.semantics.specs.Path.{cost, infinity, chargeAt, stepsAt}
 use Rattle.semantics.specs.Paths.Sum.{sum, sum-same}
 use Rattle.semantics.specs.Paths.Words.{stored, other-charge}
-use Rattle.queue.specs.Queue.{lows, slotAt, keyOf, key, Pending, Queue, Lowering, Lowered, Settled}
+use Rattle.queue.specs.Queue.{lows, slotAt, keyOf, key, Pending, Queue, LowerReady, LowerDone, SettleDone}
 use Rattle.queue.specs.Laws.Lows.{lows-length}
+use Rattle.queue.specs.Laws.Keys.{key-less}
 use Rattle.queue.specs.Laws.Pendings.{pending-or}
 use Rattle.queue.specs.Laws.First.{first-pending}
-use Rattle.queue.specs.Laws.Changes.{key-less, key-stored, key-other, settle-other, settle-back}
+use Rattle.queue.specs.Laws.Changes.{key-stored, key-other, settle-other, settle-back}
 
 -- A node is not settled if it is unreached or pending: 1 for such a node, and 0 for the others.
 unfoldable pub unsettled : ℕ → List ℕ → ℕ → ℕ
@@ -79,7 +80,7 @@ sum-one f g (suc n) v h less same = at (ℕ-discrete v n) (sum-one f g n v)
 module _ (nodes v : ℕ) (ws ws′ : List ℕ) where
   -- `settle` settles its node and no other.
   pub settled-once :
-      (upto : ℕ) → Queue nodes upto ws → slotAt ws 1 ≡ v → v < nodes → Settled nodes v ws ws′
+      (upto : ℕ) → Queue nodes upto ws → slotAt ws 1 ≡ v → v < nodes → SettleDone nodes v ws ws′
       → suc (unsettledCount nodes (suc (key (lows nodes ws) v)) ws′) ≡ unsettledCount nodes upto ws
   settled-once upto q first there s =
       let ts = lows nodes ws in
@@ -93,7 +94,7 @@ module _ (nodes v : ℕ) (ws ws′ : List ℕ) where
 
   -- `lower` leaves as many settled as were.
   pub lowered-unsettled :
-      (upto charge steps : ℕ) → Lowering nodes v charge steps ws → Lowered nodes v charge steps ws ws′ → upto ≤ keyOf charge steps v
+      (upto charge steps : ℕ) → LowerReady nodes v charge steps ws → LowerDone nodes v charge steps ws ws′ → upto ≤ keyOf charge steps v
       → unsettledCount nodes upto ws′ ≡ unsettledCount nodes upto ws
   lowered-unsettled upto charge steps l s still =
       let ts = lows nodes ws in
@@ -111,7 +112,7 @@ module _ (nodes v : ℕ) (ws ws′ : List ℕ) where
               high-open upto (stored (lows nodes ws) v (cost charge steps)) v
               (omega (
                 arith,
-                key-stored (lows nodes ws) v charge steps (omega (arith, l .sound .room, l .there, lows-length nodes ws)),
+                key-stored (lows nodes ws) v charge steps (omega (arith, l .words .room, l .there, lows-length nodes ws)),
               ))
               ∙ sym
               (high-open upto (lows nodes ws) v

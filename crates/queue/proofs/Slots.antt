@@ -8,10 +8,10 @@ use native.Mathlib.Decide.{ℕ-discrete}
 use native.Mathlib.Omega.{arith}
 use lib.ListN.{length, length-set}
 use lib.Seq.{getD-set-same, getD-set-other}
-use Rattle.semantics.specs.Graph.Path.{chargeAt, stepsAt}
+use Rattle.semantics.specs.Graph.Path.{stepsAt}
 use Rattle.queue.specs.Tournament.{none, Before, Match, Put}
 use Rattle.queue.specs.Tournaments.Matches.{before-refl}
-use Rattle.queue.specs.Queue.{lows, slotAt, keyOf, key, Sound}
+use Rattle.queue.specs.Queue.{lows, slotAt, key, Seated, QueueRoom}
 use Rattle.queue.specs.Playing.{keyIn, Seat, put}
 use Rattle.queue.specs.Laws.Lows.{lows-charge, lows-steps, lows-same}
 
@@ -27,11 +27,7 @@ pub seat-words : (ws : List ℕ) (a : ℕ) → Seat ws a → a ≢ none → (a <
 seat-words ws a (inl e) n = absurd (n e)
 seat-words ws a (inr h) n = h
 
--- a is nobody, or one of the nodes.
-abbrev pub Seated : ℕ → ℕ → Type 0
-Seated nodes a = (a ≡ none) ⊎ (a < nodes)
-
-module _ (nodes : ℕ) (ws : List ℕ) (sound : Sound nodes ws) where
+module _ (nodes : ℕ) (ws : List ℕ) (words : QueueRoom nodes ws) where
   pub seat : (a : ℕ) → Seated nodes a → Seat ws a
   seat a (inl e) = inl e
   seat a (inr h) = inr (omega arith, omega arith)
@@ -50,11 +46,11 @@ module _ (nodes : ℕ) (ws : List ℕ) (sound : Sound nodes ws) where
     pub put-lows : lows nodes (put ws x b) ≡ lows nodes ws
     put-lows = lows-same nodes ws x (b * 65536 + stepsAt ws x % 65536) h (omega arith)
 
-    pub put-sound : Seated nodes b → Sound nodes (put ws x b)
-    put-sound s =
+    pub put-words : Seated nodes b → QueueRoom nodes (put ws x b)
+    put-words s =
         record {
-          two = sound .two;
-          few = sound .few;
+          two = words .two;
+          few = words .few;
           room = omega (arith, length-set ws (2 * x + 1) (b * 65536 + stepsAt ws x % 65536));
           slots = λ z o k. at z o k (ℕ-discrete z x);
         }
@@ -62,7 +58,7 @@ module _ (nodes : ℕ) (ws : List ℕ) (sound : Sound nodes ws) where
         at : (z : ℕ) → 1 ≤ z → z < nodes → Dec (z ≡ x) → Seated nodes (slotAt (put ws x b) z)
         at z o k (yes e) =
             subst (λ (a : ℕ). Seated nodes a) (sym (subst (λ (y : ℕ). slotAt (put ws x b) y ≡ b) (sym e) (put-puts .at-x))) s
-        at z o k (no n) = subst (λ (a : ℕ). Seated nodes a) (sym (put-puts .others z n)) (sound .slots z o k)
+        at z o k (no n) = subst (λ (a : ℕ). Seated nodes a) (sym (put-puts .others z n)) (words .slots z o k)
 
   pub key-lows : (v : ℕ) → v < nodes → key (lows nodes ws) v ≡ keyIn ws v
   key-lows v h = rw (lows-charge nodes ws v, lows-steps nodes ws v h)

@@ -1,20 +1,19 @@
 -- Storing a cost below a slot.
 -- Assumes nothing.
-use mathlib.Core.Path.{_≡_, refl, sym, ap, _∙_, subst}
-use mathlib.Core.Logic.{_⊎_, inl, inr, _≢_}
+use mathlib.Core.Path.{_≡_, sym, ap, _∙_, subst}
 use mathlib.Core.List.{List}
-use Prim.Native.Nat.{ℕ, suc, _+_, _*_, _/_, _%_, _≤_, _<_}
+use Prim.Native.Nat.{ℕ, _+_, _*_, _/_, _%_, _<_}
 use native.Mathlib.Decide.{ℕ-discrete}
 use native.Mathlib.Omega.{arith}
 use lib.ListN.{length, set, length-set}
 use lib.Seq.{getD-set-same, getD-set-other}
 use Rattle.semantics.specs.Order.{cost}
 use Rattle.semantics.specs.Paths.Words.{stored}
-use Rattle.queue.specs.Tournament.{none, AllFair}
+use Rattle.queue.specs.Tournament.{AllFair}
 use Rattle.queue.specs.Tournaments.Raising.{raise-start}
-use Rattle.queue.specs.Queue.{lows, slotAt, keyOf, players, Sound, Queue, Lowering, Lowered}
+use Rattle.queue.specs.Queue.{lows, slotAt, players, Seated, QueueRoom, LowerReady, LowerDone}
 use Rattle.queue.specs.Playing.{GoneUp}
-use Rattle.queue.specs.Laws.Lows.{lows-length, lows-set-charge, lows-set-steps, costs-length}
+use Rattle.queue.specs.Laws.Lows.{lows-length, lows-set-charge, lows-set-steps}
 use Rattle.queue.specs.Laws.Pendings.{own-leaves}
 use Rattle.queue.specs.Laws.Changes.{lower-raised}
 
@@ -22,7 +21,7 @@ use Rattle.queue.specs.Laws.Changes.{lower-raised}
 abbrev pub putCost : List ℕ → ℕ → ℕ → ℕ → List ℕ
 putCost ws v charge steps = set (set ws (2 * v) charge) (2 * v + 1) (slotAt ws v * 65536 + steps)
 
-module _ (nodes v charge steps : ℕ) (ws : List ℕ) (low : Lowering nodes v charge steps ws) where
+module _ (nodes v charge steps : ℕ) (ws : List ℕ) (low : LowerReady nodes v charge steps ws) where
   abbrev ts : List ℕ
   ts = lows nodes ws
 
@@ -30,7 +29,7 @@ module _ (nodes v charge steps : ℕ) (ws : List ℕ) (low : Lowering nodes v ch
   us = putCost ws v charge steps
 
   room : 2 * v + 1 < length ws
-  room = omega (arith, low .sound .room, low .there)
+  room = omega (arith, low .words .room, low .there)
 
   cost-lows : lows nodes us ≡ stored ts v (cost charge steps)
   cost-lows =
@@ -59,37 +58,34 @@ module _ (nodes v charge steps : ℕ) (ws : List ℕ) (low : Lowering nodes v ch
   cost-slots : slotAt ws ≡ slotAt us
   cost-slots = λ i z. sym (cost-slot z) i
 
-  pub cost-sound : Sound nodes us
-  cost-sound =
-      let s = low .sound in
+  pub cost-words : QueueRoom nodes us
+  cost-words =
+      let s = low .words in
       record {
         two = s .two;
         few = s .few;
         room =
             omega
             (arith, s .room, length-set ws (2 * v) charge, length-set (set ws (2 * v) charge) (2 * v + 1) (slotAt ws v * 65536 + steps));
-        slots = λ z o k. subst (λ (a : ℕ). (a ≡ none) ⊎ (a < nodes)) (sym (cost-slot z)) (s .slots z o k);
+        slots = λ z o k. subst (λ (a : ℕ). Seated nodes a) (sym (cost-slot z)) (s .slots z o k);
       }
 
-  pub lowered : (ws′ : List ℕ) → GoneUp nodes v us ws′ → Lowered nodes v charge steps ws ws′
+  pub lowered : (ws′ : List ℕ) → GoneUp nodes v us ws′ → LowerDone nodes v charge steps ws ws′
   lowered ws′ up =
       record {
         costs = up .costs ∙ cost-lows;
         queue =
             λ upto q still.
             record {
-              sound = up .sound;
+              words = up .words;
               fair =
                   rw (up .costs)
                   (up .fair upto
                   (rw cost-lows
                   (raise-start nodes (players upto ts) (players upto (stored ts v (cost charge steps))) (slotAt us) v (low .there)
-                  (omega (arith, low .sound .few, low .there))
+                  (omega (arith, low .words .few, low .there))
                   (own-leaves upto ts)
                   (subst (λ (s : ℕ → ℕ). AllFair nodes (players upto ts) s) cost-slots (q .fair))
                   (lower-raised ts v charge steps (omega (arith, room, lows-length nodes ws)) upto (low .known) (low .fits) (low .less) still))));
             };
       }
-
-  pub lowered-length : (ws′ : List ℕ) → GoneUp nodes v us ws′ → length ws′ ≡ length ws
-  lowered-length ws′ up = costs-length nodes us ws′ (up .costs) ∙ simp length-set

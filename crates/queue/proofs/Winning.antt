@@ -1,21 +1,21 @@
 -- The winner at a place, as the code finds it.
 -- Assumes nothing.
-use mathlib.Core.Path.{_≡_, refl, sym, ap, _∙_, subst}
+use mathlib.Core.Path.{_≡_, sym, _∙_, subst}
 use mathlib.Core.Logic.{_⊎_, inl, inr, _≢_}
 use mathlib.Core.List.{List}
-use Prim.Native.Nat.{ℕ, suc, _+_, _*_, _-_, _≤_, _<_}
+use Prim.Native.Nat.{ℕ, suc, _*_, _-_, _≤_, _<_}
 use native.Mathlib.Decide.{decLt}
 use native.Mathlib.Omega.{arith}
 use Rattle.semantics.specs.Graph.Path.{infinity, chargeAt}
 use Rattle.queue.specs.Tournament.{none, winner}
 use Rattle.queue.specs.Tournaments.Matches.{winner-slot, winner-leaf}
-use Rattle.queue.specs.Queue.{lows, slotAt, key, players, Sound}
+use Rattle.queue.specs.Queue.{lows, slotAt, players, Seated, QueueRoom}
 use Rattle.queue.specs.Playing.{keyIn}
 use Rattle.queue.specs.Laws.Lows.{lows-charge}
 use Rattle.queue.specs.Laws.Pendings.{entrant-in, entrant-out, own-leaves}
-use Rattle.queue.proofs.Slots.{Seated, key-lows}
+use Rattle.queue.proofs.Slots.{key-lows}
 
-module _ (nodes : ℕ) (ws : List ℕ) (sound : Sound nodes ws) (settled z : ℕ) where
+module _ (nodes : ℕ) (ws : List ℕ) (words : QueueRoom nodes ws) (settled z : ℕ) where
   abbrev won : ℕ
   won = winner nodes (players (suc settled) (lows nodes ws)) (slotAt ws) z
 
@@ -36,14 +36,14 @@ module _ (nodes : ℕ) (ws : List ℕ) (sound : Sound nodes ws) (settled z : ℕ
         sym
         (won-leaf h
         ∙ entrant-in (suc settled) (lows nodes ws) (z - nodes)
-        ((λ e. n (sym (lows-charge nodes ws (z - nodes)) ∙ e)), omega (arith, key-lows nodes ws sound (z - nodes) (omega arith))))
+        ((λ e. n (sym (lows-charge nodes ws (z - nodes)) ∙ e)), omega (arith, key-lows nodes ws words (z - nodes) (omega arith))))
 
     pub won-settled : keyIn ws (z - nodes) ≤ settled → none ≡ won
     won-settled less =
         sym
         (won-leaf h
         ∙ entrant-out (suc settled) (lows nodes ws) (z - nodes)
-        (λ p. omega (arith, p .1, key-lows nodes ws sound (z - nodes) (omega arith))))
+        (λ p. omega (arith, p .1, key-lows nodes ws words (z - nodes) (omega arith))))
 
   pub won-seated : 1 ≤ z → z < 2 * nodes → Seated nodes won
   won-seated one h = at (decLt z nodes)
@@ -55,7 +55,7 @@ module _ (nodes : ℕ) (ws : List ℕ) (sound : Sound nodes ws) (settled z : ℕ
       leaf u k (inr e) = inl e
 
       at : Dec (z < nodes) → Seated nodes won
-      at (yes k) = subst (λ (a : ℕ). Seated nodes a) (won-slot k) (sound .slots z one k)
+      at (yes k) = subst (λ (a : ℕ). Seated nodes a) (won-slot k) (words .slots z one k)
       at (no k) =
           subst (λ (a : ℕ). Seated nodes a) (sym (won-leaf (omega arith)))
           (leaf (z - nodes) (omega arith) (own-leaves (suc settled) (lows nodes ws) (z - nodes)))

@@ -3,12 +3,12 @@
 use mathlib.Core.Path.{_≡_}
 use mathlib.Core.Logic.{_⊎_}
 use mathlib.Core.List.{List}
-use Prim.Native.Nat.{ℕ, suc, _+_, _*_, _/_, _%_, _≤_, _<_}
+use Prim.Native.Nat.{ℕ, _+_, _*_, _/_, _%_, _≤_, _<_}
 use lib.ListN.{length, set}
 use Rattle.semantics.specs.Graph.Path.{chargeAt, stepsAt}
-use Rattle.queue.specs.Tournament.{none, AllFair, winner}
+use Rattle.queue.specs.Tournament.{none, AllFair}
 use Rattle.queue.specs.Tournaments.Raising.{Raising}
-use Rattle.queue.specs.Queue.{lows, slotAt, keyOf, players, Sound}
+use Rattle.queue.specs.Queue.{lows, slotAt, keyOf, players, QueueRoom}
 
 -- The key of a node, with its slot left out.
 abbrev pub keyIn : List ℕ → ℕ → ℕ
@@ -22,16 +22,16 @@ Seat ws a = (a ≡ none) ⊎ ((a < none) × (2 * a + 1 < length ws))
 abbrev pub put : List ℕ → ℕ → ℕ → List ℕ
 put ws x b = set ws (2 * x + 1) (b * 65536 + stepsAt ws x % 65536)
 
--- A place of the tree below slot 1.
+-- A place of the tree.
 pub record Place (nodes place : ℕ) (ws : List ℕ) : Type 0 where
-  pub sound : Sound nodes ws
+  pub words : QueueRoom nodes ws
   pub low : 1 ≤ place
   pub high : place < 2 * nodes
 
--- What raising a node does: the costs stay, and once only v could be out of place all matches are fair.
+-- What raising a node does: the costs stay, and all matches are fair if they were, but for those that the node may win.
 pub record GoneUp (nodes node : ℕ) (ws ws′ : List ℕ) : Type 0 where
   pub costs : lows nodes ws′ ≡ lows nodes ws
-  pub sound : Sound nodes ws′
+  pub words : QueueRoom nodes ws′
   pub fair :
       (upto : ℕ) → Raising nodes (players upto (lows nodes ws)) (slotAt ws) node ((nodes + node) / 2)
       → AllFair nodes (players upto (lows nodes ws)) (slotAt ws′)

@@ -24,7 +24,7 @@ lows (suc n) (c ∷ k ∷ ws) = c ∷ k % 65536 ∷ lows n ws
 abbrev pub slotAt : List ℕ → ℕ → ℕ
 slotAt ws x = getD ws (2 * x + 1) 0 / 65536
 
--- Nodes are settled by charge, then by steps, then by their numbers: by one number.
+-- Nodes are settled in the order of charge, then of steps, then of their numbers. Steps and numbers have 16 bits, so that is the order of one number.
 abbrev pub keyOf : ℕ → ℕ → ℕ → ℕ
 keyOf charge steps v = (charge * 65536 + steps) * 65536 + v
 
@@ -43,39 +43,43 @@ pends upto ts v = cond (eqb (chargeAt ts v) infinity) false (leb upto (key ts v)
 abbrev pub players : ℕ → List ℕ → Players
 players upto ts = record { entrant = λ v. cond (pends upto ts v) v none; key = λ v. key ts v }
 
+-- a is nobody, or one of the nodes.
+abbrev pub Seated : ℕ → ℕ → Type 0
+Seated nodes a = (a ≡ none) ⊎ (a < nodes)
+
 -- The words have room for the nodes, and each slot holds a node or nobody.
-pub record Sound (nodes : ℕ) (ws : List ℕ) : Type 0 where
+pub record QueueRoom (nodes : ℕ) (ws : List ℕ) : Type 0 where
   pub two : 2 ≤ nodes
   pub few : nodes ≤ none
   pub room : 2 * nodes ≤ length ws
-  pub slots : (z : ℕ) → 1 ≤ z → z < nodes → (slotAt ws z ≡ none) ⊎ (slotAt ws z < nodes)
+  pub slots : (z : ℕ) → 1 ≤ z → z < nodes → Seated nodes (slotAt ws z)
 
--- The words hold the queue of the nodes that are pending.
+-- The words hold the queue of the nodes that are pending: every match is fair.
 pub record Queue (nodes upto : ℕ) (ws : List ℕ) : Type 0 where
-  pub sound : Sound nodes ws
+  pub words : QueueRoom nodes ws
   pub fair : AllFair nodes (players upto (lows nodes ws)) (slotAt ws)
 
 -- What `lower` asks: a cost that is less than the node's.
-pub record Lowering (nodes node charge steps : ℕ) (ws : List ℕ) : Type 0 where
-  pub sound : Sound nodes ws
+pub record LowerReady (nodes node charge steps : ℕ) (ws : List ℕ) : Type 0 where
+  pub words : QueueRoom nodes ws
   pub there : node < nodes
   pub fits : steps < 65536
   pub known : charge ≢ infinity
   pub less : cost charge steps ≺ cost (chargeAt (lows nodes ws) node) (stepsAt (lows nodes ws) node)
 
--- What it does: the cost is stored, and if the node is not settled by it the queue is one again.
-pub record Lowered (nodes node charge steps : ℕ) (ws ws′ : List ℕ) : Type 0 where
+-- What it does: the cost is stored; and a queue up to any key is one again, unless the new key is settled already.
+pub record LowerDone (nodes node charge steps : ℕ) (ws ws′ : List ℕ) : Type 0 where
   pub costs : lows nodes ws′ ≡ stored (lows nodes ws) node (cost charge steps)
   pub queue : (upto : ℕ) → Queue nodes upto ws → upto ≤ keyOf charge steps node → Queue nodes upto ws′
 
 -- What `settle` asks: the node is the first of a queue.
-pub record Settling (nodes node : ℕ) (ws : List ℕ) : Type 0 where
+pub record SettleReady (nodes node : ℕ) (ws : List ℕ) : Type 0 where
   pub upto : ℕ
   pub queue : Queue nodes upto ws
   pub first : slotAt ws 1 ≡ node
   pub there : node < nodes
 
 -- What it does: the costs stay, and the node is settled with all keys up to its own.
-pub record Settled (nodes node : ℕ) (ws ws′ : List ℕ) : Type 0 where
+pub record SettleDone (nodes node : ℕ) (ws ws′ : List ℕ) : Type 0 where
   pub costs : lows nodes ws′ ≡ lows nodes ws
   pub queue : Queue nodes (suc (key (lows nodes ws) node)) ws′

@@ -1,11 +1,11 @@
-// The priority queue of a search in Dijkstra's order: a tournament of the nodes that are pending, kept in the spare halves of the words of the search.
+// The priority queue of a search in Dijkstra's order: a tournament of the nodes that are pending, kept in the spare halves of its words.
 // Node v has its charge at word 2v and, in word 2v + 1, its steps in the low half; the high half of word 2x + 1 is slot x of the tournament.
 ghost use mathlib.Core.Path.{_≡_};
 ghost use Prim.Native.Nat.{suc, _+_, _*_, _%_, _≤_, _<_};
 ghost use lib.ListN.{length};
 ghost use Rattle.semantics.specs.Graph.Path.{chargeAt, stepsAt};
 ghost use Rattle.queue.specs.Tournament.{none, Match, winner};
-ghost use Rattle.queue.specs.Queue.{lows, slotAt, players, Sound, Lowering, Lowered, Settling, Settled};
+ghost use Rattle.queue.specs.Queue.{lows, slotAt, players, QueueRoom, LowerReady, LowerDone, SettleReady, SettleDone};
 ghost use Rattle.queue.specs.Playing.{keyIn, Seat, put, Place, GoneUp};
 
 // Nobody: what a slot holds if no node below it is pending.
@@ -101,7 +101,7 @@ fn winner(words: &[u32], nodes: usize, place: usize, settled: u64) -> usize
 
 // A node goes up from its leaf as far as it wins.
 fn raise(words: &mut [u32], nodes: usize, node: usize)
-    requires { ⌜ Sound nodes (now words) × (node < nodes) ⌝ }
+    requires { ⌜ QueueRoom nodes (now words) × (node < nodes) ⌝ }
     ensures { λ _. ⌜ GoneUp nodes node (now (words .entry)) (now (words .exit)) ⌝ }
 {
     let mut place = (nodes + node) / 2;
@@ -117,8 +117,8 @@ fn raise(words: &mut [u32], nodes: usize, node: usize)
 
 // A node gets a cost that is less than its own.
 pub fn lower(words: &mut [u32], nodes: usize, node: usize, charge: u32, steps: u32)
-    requires { ⌜ Lowering nodes node charge steps (now words) ⌝ }
-    ensures { λ _. ⌜ Lowered nodes node charge steps (now (words .entry)) (now (words .exit)) ⌝ }
+    requires { ⌜ LowerReady nodes node charge steps (now words) ⌝ }
+    ensures { λ _. ⌜ LowerDone nodes node charge steps (now (words .entry)) (now (words .exit)) ⌝ }
 {
     let high = words[2 * node + 1] / HALF;
     words[2 * node] = charge;
@@ -128,8 +128,8 @@ pub fn lower(words: &mut [u32], nodes: usize, node: usize, charge: u32, steps: u
 
 // The first of the pending nodes is settled: the matches on the way up from its leaf are played again without it.
 pub fn settle(words: &mut [u32], nodes: usize, node: usize)
-    requires { ⌜ Settling nodes node (now words) ⌝ }
-    ensures { λ _. ⌜ Settled nodes node (now (words .entry)) (now (words .exit)) ⌝ }
+    requires { ⌜ SettleReady nodes node (now words) ⌝ }
+    ensures { λ _. ⌜ SettleDone nodes node (now (words .entry)) (now (words .exit)) ⌝ }
 {
     let settled = key(words, node);
     let mut place = nodes + node;
@@ -141,5 +141,15 @@ pub fn settle(words: &mut [u32], nodes: usize, node: usize)
         best = play(words, best, other);
         set_slot(words, up, best);
         place = up;
+    }
+}
+
+// The slots go: what is left of the words are the costs.
+pub fn clear_slots(words: &mut [u32], nodes: usize)
+    requires { ⌜ 2 * nodes ≤ length (now words) ⌝ }
+    ensures { λ _. ⌜ now (words .exit) ≡ lows nodes (now (words .entry)) ⌝ }
+{
+    for v in 0..nodes {
+        words[2 * v + 1] = words[2 * v + 1] % HALF;
     }
 }

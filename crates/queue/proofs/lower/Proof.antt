@@ -3,13 +3,12 @@ use Prim.Native.Nat.{_+_, _*_}
 use native.Mathlib.Omega.{arith}
 use denote.Ref.{now}
 use lib.ListN.{length-set}
-use Rattle.queue.proofs.Storing.{cost-sound, lowered, lowered-length}
+use Rattle.semantics.specs.Order.{cost}
+use Rattle.queue.specs.Laws.Lows.{lowered-length}
+use Rattle.queue.proofs.Storing.{cost-words, lowered}
 use borrow.Author.Needs.{needs}
 use Rattle.queue.proofs.lower.Statement.{statement}
 use Rattle.queue.proofs.lower.Tie as tie
-use Rattle.queue.proofs.lower.Reads as reads
-use Rattle.queue.proofs.lower.Lts as lts
-use Rattle.queue.proofs.raise.Reads as raise-reads
 
 mul-high : tie.Need-mul-high
 mul-high c = search needs
@@ -49,25 +48,26 @@ mul-words-5 : tie.Need-mul-words-5
 mul-words-5 c = search needs
 
 slice-write-words-2 : tie.Need-slice-write-words-2
-slice-write-words-2 c = simp length-set (omega (arith, c .before .before .pre .there, c .before .before .pre .sound))
+slice-write-words-2 c = simp length-set (omega (arith, c .before .before .pre .there, c .before .before .pre .words))
 
 raise-requires : tie.Need-raise-requires
 raise-requires c κs =
     let s = c .before .before .before in
     let a = s .args in
-    (cost-sound (a .nodes) (a .node) (a .charge) (a .steps) (now (a .words)) (s .pre), s .pre .there)
-
-same-length : tie.Need-same-length
-same-length c =
-    let s = c .before .before .before .before .before .before in
-    let a = s .args in
-    lowered-length (a .nodes) (a .node) (a .charge) (a .steps) (now (a .words)) (s .pre) (c .before .before .raise .last .0) (c .before .before .raise .ensures)
+    (cost-words (a .nodes) (a .node) (a .charge) (a .steps) (now (a .words)) (s .pre), s .pre .there)
 
 returns : tie.Need-returns
 returns c =
     let s = c .before .before .before .before .before .before in
     let a = s .args in
-    lowered (a .nodes) (a .node) (a .charge) (a .steps) (now (a .words)) (s .pre) (c .before .before .raise .last .0) (c .before .before .raise .ensures)
+    lowered (a .nodes) (a .node) (a .charge) (a .steps) (now (a .words)) (s .pre) (c .before .before .raise .last .0)
+    (c .before .before .raise .ensures)
+
+same-length : tie.Need-same-length
+same-length c =
+    let a = c .before .before .before .before .before .before .args in
+    lowered-length (a .nodes) (now (a .words)) (c .before .before .raise .last .0) (a .node) (cost (a .charge) (a .steps))
+    (returns c .costs)
 
 pub lower-spec : {M : Type 1} → statement M
 lower-spec =

@@ -1,21 +1,13 @@
 -- `raise` meets its contract. The loop's invariant: the node has come up to this place. Assumes nothing.
-use mathlib.Core.Path.{_≡_}
-use mathlib.Core.Logic.{inl, inr}
+use mathlib.Core.Logic.{inr}
 use Prim.Native.Nat.{_≤_}
 use native.Mathlib.Omega.{arith}
 use denote.Ref.{now}
-use lib.ListN.{length}
-use borrow.Author.Needs.{needs}
 use Rattle.queue.specs.Laws.Lows.{costs-length}
 use Rattle.queue.proofs.Slots.{seat}
 use Rattle.queue.proofs.GoingUp.{Rising, rising-start, rising-up, rising-stop, rising-end}
 use Rattle.queue.proofs.raise.Statement.{statement}
 use Rattle.queue.proofs.raise.Tie as tie
-use Rattle.queue.proofs.raise.Reads as reads
-use Rattle.queue.proofs.raise.Lts as lts
-use Rattle.queue.proofs.play.Reads as play-reads
-use Rattle.queue.proofs.set_slot.Reads as set-slot-reads
-use Rattle.queue.proofs.slot.Reads as slot-reads
 
 abbrev Inv-loop : tie.InvT-loop
 Inv-loop words₀ nodes node place₀ words place = Rising nodes node words₀ words place
@@ -34,16 +26,16 @@ loop-holds c =
 slot-requires : tie.Need-slot-requires Inv-loop μ-loop
 slot-requires c κs =
     let loop = c .before .before .loop in
-    omega (arith, loop .inv .inside, loop .inv .sound)
+    omega (arith, loop .inv .inside, loop .inv .words)
 
 play-requires : tie.Need-play-requires Inv-loop μ-loop
 play-requires c κs =
     let s = c .before .before .before .before .before .before in
     let loop = c .before .before .before .before .loop in
     let one : 1 ≤ loop .place = omega arith in (
-      seat (s .args .nodes) (loop .words) (loop .inv .sound) (s .args .node) (inr (s .pre .1)),
-      seat (s .args .nodes) (loop .words) (loop .inv .sound) (c .before .slot .result)
-          (rw (c .before .slot .ensures) (loop .inv .sound .slots (loop .place) one (loop .inv .inside))),
+      seat (s .args .nodes) (loop .words) (loop .inv .words) (s .args .node) (inr (s .pre .1)),
+      seat (s .args .nodes) (loop .words) (loop .inv .words) (c .before .slot .result)
+          (rw (c .before .slot .ensures) (loop .inv .words .slots (loop .place) one (loop .inv .inside))),
     )
 
 same-length : tie.Need-same-length Inv-loop μ-loop
@@ -67,7 +59,7 @@ set-slot-requires : tie.Need-set-slot-requires Inv-loop μ-loop
 set-slot-requires c κs =
     let s = c .before .before .before .before .before .before .before .before .before in
     let loop = c .before .before .before .before .before .before .before .loop in
-    (omega (arith, loop .inv .inside, loop .inv .sound), omega (arith, s .pre .1, loop .inv .sound))
+    (omega (arith, loop .inv .inside, loop .inv .words), omega (arith, s .pre .1, loop .inv .words))
 
 loop-less : tie.Need-loop-less Inv-loop μ-loop
 loop-less c = omega arith

@@ -1,5 +1,5 @@
 -- `winner` meets its contract. Assumes nothing.
-use mathlib.Core.Path.{_≡_, _∙_, sym}
+use mathlib.Core.Path.{_∙_, sym}
 use native.Mathlib.Omega.{arith}
 use denote.Ref.{now}
 use borrow.Author.Needs.{needs}
@@ -14,7 +14,7 @@ returns : tie.Need-returns
 returns c =
     let s = c .before .before .before in
     let a = s .args in
-    c .slot .ensures ∙ won-slot (a .nodes) (now (a .words)) (s .pre .sound) (a .settled) (a .place) (c .before .if1 .taken)
+    c .slot .ensures ∙ won-slot (a .nodes) (now (a .words)) (s .pre .words) (a .settled) (a .place) (c .before .if1 .taken)
 
 charge-of-requires : tie.Need-charge-of-requires
 charge-of-requires c κs = search needs
@@ -23,7 +23,7 @@ returns-2 : tie.Need-returns-2
 returns-2 c =
     let s = c .before .before .before .before in
     let a = s .args in
-    won-unreached (a .nodes) (now (a .words)) (s .pre .sound) (a .settled) (a .place) (c .before .before .if1 .left)
+    won-unreached (a .nodes) (now (a .words)) (s .pre .words) (a .settled) (a .place) (c .before .before .if1 .left)
     (sym (c .before .charge-of .ensures) ∙ c .if2 .taken)
 
 key-requires : tie.Need-key-requires
@@ -33,7 +33,7 @@ returns-3 : tie.Need-returns-3
 returns-3 c =
     let s = c .before .before .before .before .before .before in
     let a = s .args in
-    won-pending (a .nodes) (now (a .words)) (s .pre .sound) (a .settled) (a .place) (c .before .before .before .before .if1 .left) (s .pre .high)
+    won-pending (a .nodes) (now (a .words)) (s .pre .words) (a .settled) (a .place) (c .before .before .before .before .if1 .left) (s .pre .high)
     (λ e. c .before .before .if2 .left (c .before .before .before .charge-of .ensures ∙ e))
     (omega (arith, c .if3 .taken, c .before .key .ensures))
 
@@ -41,7 +41,7 @@ returns-4 : tie.Need-returns-4
 returns-4 c =
     let s = c .before .before .before .before .before .before in
     let a = s .args in
-    won-settled (a .nodes) (now (a .words)) (s .pre .sound) (a .settled) (a .place) (c .before .before .before .before .if1 .left) (s .pre .high)
+    won-settled (a .nodes) (now (a .words)) (s .pre .words) (a .settled) (a .place) (c .before .before .before .before .if1 .left) (s .pre .high)
     (omega (arith, c .if3 .left, c .before .key .ensures))
 
 pub winner-spec : {M : Type 1} → statement M

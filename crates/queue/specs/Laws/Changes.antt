@@ -1,8 +1,7 @@
--- How the players change: one is lowered, or the first is settled. And each node is settled once.
+-- How the players change: one is lowered, or the first is settled.
 -- Assumes nothing.
-use mathlib.Core.Path.{_≡_, refl, sym, ap, _∙_, subst}
-use mathlib.Core.Bool.{Bool, true, false, cond}
-use mathlib.Core.Logic.{_⊎_, inl, inr, _≢_}
+use mathlib.Core.Path.{_≡_, sym, subst}
+use mathlib.Core.Logic.{inl, inr, _≢_}
 use mathlib.Core.List.{List}
 use Prim.Native.Nat.{ℕ, suc, _+_, _*_, _≤_, _<_}
 use native.Mathlib.Decide.{ℕ-discrete}
@@ -11,19 +10,13 @@ use lib.ListN.{length}
 use Rattle.semantics.specs.Order.{cost, _≺_}
 use Rattle.semantics.specs.Graph.Path.{infinity, chargeAt, stepsAt}
 use Rattle.semantics.specs.Paths.Words.{stored, stored-charge, stored-steps, other-charge, other-steps}
-use Rattle.queue.specs.Tournament.{none, Before}
+use Rattle.queue.specs.Tournament.{Before}
 use Rattle.queue.specs.Tournaments.Raising.{Raised}
 use Rattle.queue.specs.Tournaments.Replaying.{Without}
 use Rattle.queue.specs.Queue.{lows, slotAt, keyOf, key, Pending, players, Queue}
-use Rattle.queue.specs.Laws.Pendings.{key-own, entrant-in, entrant-out, entrant-same}
+use Rattle.queue.specs.Laws.Keys.{key-own, key-less}
+use Rattle.queue.specs.Laws.Pendings.{entrant-in, entrant-out, entrant-same}
 use Rattle.queue.specs.Laws.First.{first-pending, first-least}
-
--- A cost that is less makes a key that is less.
-pub key-less :
-    (charge steps charge₀ steps₀ v : ℕ) → steps < 65536 → cost charge steps ≺ cost charge₀ steps₀
-    → keyOf charge steps v < keyOf charge₀ steps₀ v
-key-less charge steps charge₀ steps₀ v fits (inl h) = omega arith
-key-less charge steps charge₀ steps₀ v fits (inr h) = omega arith
 
 module _ (ts : List ℕ) (v charge steps : ℕ) where
   abbrev after : List ℕ
@@ -77,7 +70,7 @@ module _ (nodes upto : ℕ) (ws : List ℕ) (queue : Queue nodes upto ws) (v : �
   -- Another node is pending as before.
   pub settle-other : (u : ℕ) → u < nodes → u ≢ v → Pending upto ts u → Pending (suc (key ts v)) ts u
   settle-other u h n p =
-      let d : key ts u ≢ key ts v = λ e. n (key-own ts u v (omega (arith, queue .sound)) (omega (arith, queue .sound)) e) in
+      let d : key ts u ≢ key ts v = λ e. n (key-own ts u v (omega (arith, queue .words)) (omega (arith, queue .words)) e) in
       (p .0, omega (arith, first-least nodes upto ws queue v there first u h p))
 
   pub settle-back : (u : ℕ) → Pending (suc (key ts v)) ts u → Pending upto ts u

@@ -1,17 +1,17 @@
 -- Slot 1 of a queue: the first of the pending nodes, or nobody if none is pending. And the empty queue.
 -- Assumes nothing.
-use mathlib.Core.Path.{_≡_, refl, sym, ap, _∙_, subst}
-use mathlib.Core.Logic.{_⊎_, inl, inr, _≢_}
+use mathlib.Core.Path.{_≡_, sym, ap, _∙_, subst}
+use mathlib.Core.Logic.{inl, inr, _≢_}
 use mathlib.Core.List.{List, _++_}
-use Prim.Native.Nat.{ℕ, suc, _+_, _*_, _-_, _/_, _≤_, _<_}
+use Prim.Native.Nat.{ℕ, _+_, _*_, _-_, _/_, _≤_, _<_}
 use native.Mathlib.Decide.{decLt}
 use native.Mathlib.Omega.{arith}
-use lib.ListN.{length, getD, replicate, length-append, length-replicate, getD-replicate, List·getD-append}
+use lib.ListN.{getD, replicate, length-append, length-replicate, getD-replicate, List·getD-append}
 use Rattle.semantics.specs.Graph.Path.{infinity, chargeAt}
-use Rattle.queue.specs.Tournament.{none, Players, Before, winner, Fair}
+use Rattle.queue.specs.Tournament.{none, Before, winner}
 use Rattle.queue.specs.Tournaments.Matches.{winner-slot, winner-leaf}
-use Rattle.queue.specs.Tournaments.Least.{least, Entered, entered}
-use Rattle.queue.specs.Queue.{lows, slotAt, key, Pending, players, Sound, Queue}
+use Rattle.queue.specs.Tournaments.Least.{least, entered}
+use Rattle.queue.specs.Queue.{lows, slotAt, key, Pending, players, Queue}
 use Rattle.queue.specs.Laws.Lows.{lows-charge}
 use Rattle.queue.specs.Laws.Pendings.{entrant-in, entrant-out, in-pending, own-leaves}
 
@@ -20,12 +20,12 @@ module _ (nodes upto : ℕ) (ws : List ℕ) (queue : Queue nodes upto ws) where
   first-before : (v : ℕ) → v < nodes → Pending upto (lows nodes ws) v → Before (λ u. key (lows nodes ws) u) (slotAt ws 1) v
   first-before v h p =
       subst (λ (a : ℕ). Before (λ u. key (lows nodes ws) u) (slotAt ws 1) a) (entrant-in upto (lows nodes ws) v p)
-      (least nodes (players upto (lows nodes ws)) (slotAt ws) (queue .fair) (queue .sound .two) v h)
+      (least nodes (players upto (lows nodes ws)) (slotAt ws) (queue .fair) (queue .words .two) v h)
 
   -- A node in slot 1 is pending.
   pub first-pending : (u : ℕ) → u < nodes → slotAt ws 1 ≡ u → Pending upto (lows nodes ws) u
   first-pending u h e =
-      let s = queue .sound in
+      let s = queue .words in
       let n : u ≢ none = omega arith in
       in-pending upto (lows nodes ws) u n
       (entered nodes (players upto (lows nodes ws)) (slotAt ws) (queue .fair) (own-leaves upto (lows nodes ws)) 1 u (omega arith) (omega arith)
@@ -40,7 +40,7 @@ module _ (nodes upto : ℕ) (ws : List ℕ) (queue : Queue nodes upto ws) where
   first-least u h e v k p = at (first-before v k p)
     where
       at : Before (λ w. key (lows nodes ws) w) (slotAt ws 1) v → key (lows nodes ws) u ≤ key (lows nodes ws) v
-      at (inl n) = absurd (omega (arith, queue .sound))
+      at (inl n) = absurd (omega (arith, queue .words))
       at (inr b) = subst (λ (w : ℕ). key (lows nodes ws) w ≤ key (lows nodes ws) v) e (b .1)
 
   -- With nobody in slot 1 no node is pending.
@@ -48,7 +48,7 @@ module _ (nodes upto : ℕ) (ws : List ℕ) (queue : Queue nodes upto ws) where
   first-none e v k p = at (first-before v k p)
     where
       at : Before (λ w. key (lows nodes ws) w) (slotAt ws 1) v → ⊥
-      at (inl n) = omega (arith, queue .sound)
+      at (inl n) = omega (arith, queue .words)
       at (inr b) = b .0 e
 
 -- Words that are all infinity are the empty queue.
@@ -60,6 +60,10 @@ module _ (nodes upto : ℕ) (rest : List ℕ) (two : 2 ≤ nodes) (few : nodes �
   unfolding blank
   blank-word i h =
       List·getD-append (replicate (2 * nodes) infinity) rest 0 i (rw length-replicate h) ∙ getD-replicate (2 * nodes) i infinity 0 h
+
+  pub empty-unreached : (v : ℕ) → v < nodes → chargeAt (lows nodes (replicate (2 * nodes) infinity ++ rest)) v ≡ infinity
+  unfolding blank
+  empty-unreached v h = lows-charge nodes blank v ∙ blank-word (2 * v) (omega arith)
 
   blank-winner : (z : ℕ) → z < 2 * nodes → winner nodes (players upto (lows nodes blank)) (slotAt blank) z ≡ none
   blank-winner z h = at (decLt z nodes)
@@ -79,7 +83,7 @@ module _ (nodes upto : ℕ) (rest : List ℕ) (two : 2 ≤ nodes) (few : nodes �
   unfolding blank
   empty-queue =
       record {
-        sound =
+        words =
             record {
               two = two;
               few = few;

@@ -3,10 +3,13 @@
 use mathlib.Core.Path.{_≡_, refl, sym, ap, _∙_}
 use mathlib.Core.List.{List, [], _∷_}
 use Prim.Native.Nat.{ℕ, zero, suc, pred, _+_, _*_, _%_, _<_}
+use native.Mathlib.Numerals.{add-one}
 use native.Mathlib.Omega.{arith}
 use lib.ListN.{length, getD, set, drop}
 use lib.Seq.{set-getD}
+use Rattle.semantics.specs.Order.{Cost}
 use Rattle.semantics.specs.Graph.Path.{chargeAt, stepsAt}
+use Rattle.semantics.specs.Paths.Words.{stored, stored-length, stored-rest}
 use Rattle.queue.specs.Queue.{lows}
 
 even-entry : (n : ℕ) (ws : List ℕ) (j v : ℕ) → j ≡ 2 * v → getD (lows n ws) j 0 ≡ getD ws j 0
@@ -50,6 +53,21 @@ odd-set (suc n) (c ∷ k ∷ ws) (suc zero) v x e h = refl
 odd-set (suc n) (c ∷ k ∷ ws) (suc (suc j)) v x e h =
     ap (λ (l : List ℕ). c ∷ k % 65536 ∷ l) (odd-set n ws j (pred v) x (omega arith) (omega arith))
 
+next-lows : (n : ℕ) (ws : List ℕ) (j : ℕ) → j ≡ 2 * n + 1 → lows (suc n) ws ≡ set (lows n ws) j (getD (lows n ws) j 0 % 65536)
+unfolding lows
+next-lows zero [] j e = refl
+next-lows zero (c ∷ []) zero e = absurd (omega arith)
+next-lows zero (c ∷ []) (suc j) e = refl
+next-lows zero (c ∷ k ∷ ws) zero e = absurd (omega arith)
+next-lows zero (c ∷ k ∷ ws) (suc zero) e = refl
+next-lows zero (c ∷ k ∷ ws) (suc (suc j)) e = absurd (omega arith)
+next-lows (suc n) [] j e = refl
+next-lows (suc n) (c ∷ []) zero e = absurd (omega arith)
+next-lows (suc n) (c ∷ []) (suc j) e = refl
+next-lows (suc n) (c ∷ k ∷ ws) zero e = absurd (omega arith)
+next-lows (suc n) (c ∷ k ∷ ws) (suc zero) e = absurd (omega arith)
+next-lows (suc n) (c ∷ k ∷ ws) (suc (suc j)) e = ap (λ (l : List ℕ). c ∷ k % 65536 ∷ l) (next-lows n ws j (omega arith))
+
 drop-lows : (n : ℕ) (ws : List ℕ) (j : ℕ) → j ≡ 2 * n → drop j (lows n ws) ≡ drop j ws
 unfolding lows
 drop-lows zero ws j e = refl
@@ -77,11 +95,18 @@ module _ (n : ℕ) (ws : List ℕ) where
   pub lows-steps : (v : ℕ) → v < n → stepsAt (lows n ws) v ≡ stepsAt ws v % 65536
   lows-steps v h = odd-entry n ws (2 * v + 1) v refl h
 
+  pub lows-steps-below : (v : ℕ) → v < n → stepsAt (lows n ws) v < 65536
+  lows-steps-below v h = omega (arith, lows-steps v h)
+
   pub lows-set-charge : (v x : ℕ) → v < n → lows n (set ws (2 * v) x) ≡ set (lows n ws) (2 * v) x
   lows-set-charge v x h = even-set n ws (2 * v) v x refl h
 
   pub lows-set-steps : (v x : ℕ) → v < n → lows n (set ws (2 * v + 1) x) ≡ set (lows n ws) (2 * v + 1) (x % 65536)
   lows-set-steps v x h = odd-set n ws (2 * v + 1) v x refl h
+
+  -- One slot more left out.
+  pub lows-next : lows (n + 1) ws ≡ set (lows n ws) (2 * n + 1) (stepsAt (lows n ws) n % 65536)
+  lows-next = rw add-one (next-lows n ws (2 * n + 1) refl)
 
   -- A store that changes a slot alone.
   pub lows-same : (v x : ℕ) → v < n → x % 65536 ≡ stepsAt ws v % 65536 → lows n (set ws (2 * v + 1) x) ≡ lows n ws
@@ -97,3 +122,12 @@ module _ (n : ℕ) (ws us : List ℕ) (same : lows n us ≡ lows n ws) where
 
   pub costs-rest : drop (2 * n) us ≡ drop (2 * n) ws
   costs-rest = sym (lows-rest n us) ∙ ap (λ (l : List ℕ). drop (2 * n) l) same ∙ lows-rest n ws
+
+-- And so are those in which a cost was stored.
+module _ (n : ℕ) (ws us : List ℕ) (v : ℕ) (c : Cost) (same : lows n us ≡ stored (lows n ws) v c) where
+  pub lowered-length : length us ≡ length ws
+  lowered-length = sym (lows-length n us) ∙ ap length same ∙ stored-length (lows n ws) v c ∙ lows-length n ws
+
+  pub lowered-rest : v < n → drop (2 * n) us ≡ drop (2 * n) ws
+  lowered-rest h =
+      sym (lows-rest n us) ∙ ap (λ (l : List ℕ). drop (2 * n) l) same ∙ stored-rest (lows n ws) v c n h ∙ lows-rest n ws

@@ -1,20 +1,16 @@
--- Who plays, and by which key.
+-- Who plays.
 -- Assumes nothing.
-use mathlib.Core.Path.{_≡_, refl, sym, ap, _∙_}
+use mathlib.Core.Path.{_≡_, refl, sym, _∙_}
 use mathlib.Core.Bool.{Bool, true, false, cond}
 use mathlib.Core.Logic.{_⊎_, inl, inr, _≢_}
 use mathlib.Core.List.{List}
-use Prim.Native.Nat.{ℕ, suc, _+_, _*_, _≤_, _<_}
+use Prim.Native.Nat.{ℕ, _<_}
 use native.Mathlib.Omega.{arith}
 use lib.Dec.{eqb, leb}
-use borrow.Author.Tests.{ne-eqb, eq-eqb, eqb-true, eqb-false, le-leb, leb-true, leb-false, lt-leb}
-use Rattle.semantics.specs.Graph.Path.{infinity, chargeAt, stepsAt}
+use borrow.Author.Tests.{ne-eqb, eqb-true, eqb-false, le-leb, leb-true, leb-false}
+use Rattle.semantics.specs.Graph.Path.{infinity, chargeAt}
 use Rattle.queue.specs.Tournament.{none, OwnLeaves}
 use Rattle.queue.specs.Queue.{key, Pending, pends, players}
-
--- Keys of different nodes differ.
-pub key-own : (ts : List ℕ) (u v : ℕ) → u < 65536 → v < 65536 → key ts u ≡ key ts v → u ≡ v
-key-own ts u v h k e = omega arith
 
 module _ (upto : ℕ) (ts : List ℕ) (v : ℕ) where
   pends-true : Pending upto ts v → pends upto ts v ≡ true

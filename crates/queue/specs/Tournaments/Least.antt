@@ -6,7 +6,7 @@ use Prim.Native.Nat.{ℕ, zero, suc, _+_, _*_, _-_, _/_, _≤_, _<_}
 use native.Mathlib.Decide.{decLt}
 use native.Mathlib.Omega.{arith}
 use Rattle.queue.specs.Tournament.{none, Players, OwnLeaves, Before, winner, Fair, AllFair, OnWay, here}
-use Rattle.queue.specs.Tournaments.Matches.{before-refl, before-same, before-trans, winner-slot, winner-leaf, way-on}
+use Rattle.queue.specs.Tournaments.Matches.{before-same, before-trans, winner-slot, winner-leaf, way-on}
 
 -- v plays, and the way up from its leaf leads to z.
 pub record Entered (nodes : ℕ) (p : Players) (v z : ℕ) : Type 0 where

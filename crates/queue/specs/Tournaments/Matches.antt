@@ -3,12 +3,12 @@
 -- Assumes nothing.
 use mathlib.Core.Path.{_≡_, refl, sym, _∙_, subst, subst₂}
 use mathlib.Core.Logic.{_⊎_, inl, inr, _≢_}
-use Prim.Native.Nat.{ℕ, _+_, _-_, _/_, _≤_, _<_}
+use Prim.Native.Nat.{ℕ, _-_, _/_, _≤_, _<_}
 use native.Mathlib.Decide.{ℕ-discrete, decLt}
 use native.Mathlib.Nat.{le-refl}
 use native.Mathlib.Omega.{arith}
 use borrow.Author.Tests.{lt-ltb, le-ltb}
-use Rattle.queue.specs.Tournament.{none, Players, Before, winner, Won, Fair, OnWay, here, up, Put}
+use Rattle.queue.specs.Tournament.{none, Players, Before, winner, Fair, AllFair, OnWay, here, up, Put}
 
 module _ (key : ℕ → ℕ) where
   pub before-refl : (a : ℕ) → Before key a a
@@ -63,7 +63,8 @@ winner-same nodes p q s t c slot leaf = at (decLt c nodes)
 -- A match stays fair if its slot and the winners below are the same, and are in the same order.
 pub fair-same :
     (nodes : ℕ) (p q : Players) (s t : ℕ → ℕ) (z : ℕ) → t z ≡ s z → ((c : ℕ) → c / 2 ≡ z → winner nodes q t c ≡ winner nodes p s c)
-    → ((c : ℕ) → c / 2 ≡ z → Before (p .key) (s z) (winner nodes p s c) → Before (q .key) (s z) (winner nodes p s c)) → Fair nodes p s z → Fair nodes q t z
+    → ((c : ℕ) → c / 2 ≡ z → Before (p .key) (s z) (winner nodes p s c) → Before (q .key) (s z) (winner nodes p s c))
+    → Fair nodes p s z → Fair nodes q t z
 fair-same nodes p q s t z slot same order f =
     record {
       won = (f .won .0, f .won .1, slot ∙ f .won .2 ∙ sym (same (f .won .0) (f .won .1)));
@@ -92,7 +93,7 @@ fair-next nodes p s t x b put f rest z one h = at (ℕ-discrete z x) (ℕ-discre
     at (no n) (no m) (inr w) = inr (way-next w n)
 
 -- With nothing left, all are fair.
-pub fair-done : (nodes : ℕ) (p : Players) (slots : ℕ → ℕ) (x : ℕ) → x ≡ 0 → FairButOn nodes p slots x → (z : ℕ) → 1 ≤ z → z < nodes → Fair nodes p slots z
+pub fair-done : (nodes : ℕ) (p : Players) (slots : ℕ → ℕ) (x : ℕ) → x ≡ 0 → FairButOn nodes p slots x → AllFair nodes p slots
 fair-done nodes p slots x e rest z one h = at (rest z one h)
   where
     at : Fair nodes p slots z ⊎ OnWay x z → Fair nodes p slots z

@@ -6,8 +6,9 @@ use Prim.Native.Nat.{ℕ, _+_, _*_, _-_, _/_, _≤_, _<_}
 use native.Mathlib.Decide.{ℕ-discrete}
 use native.Mathlib.Omega.{arith}
 use Rattle.queue.specs.Tournament.{none, Players, OwnLeaves, Before, winner, Won, Fair, AllFair, OnWay, here, up, Put}
-use Rattle.queue.specs.Tournaments.Matches.{before-refl, before-same, before-trans, winner-slot, winner-leaf, winner-same, fair-same, way-on, way-next, way-zero, FairButOn, fair-next, fair-done}
-use Rattle.queue.specs.Tournaments.Least.{Entered, entered}
+use Rattle.queue.specs.Tournaments.Matches.{before-refl, before-same, before-trans, winner-slot, winner-leaf, winner-same}
+use Rattle.queue.specs.Tournaments.Matches.{fair-same, way-on, way-next, way-zero, FairButOn, fair-next, fair-done}
+use Rattle.queue.specs.Tournaments.Least.{entered}
 
 -- The match at z is fair, but for v: v may come before the winner.
 pub record FairButFor (nodes : ℕ) (p : Players) (slots : ℕ → ℕ) (v z : ℕ) : Type 0 where
@@ -92,12 +93,11 @@ module _ (nodes : ℕ) (p : Players) (v : ℕ) where
       (s : ℕ → ℕ) → ((z : ℕ) → 1 ≤ z → z < nodes → FairButFor nodes p s v z) → {x z : ℕ} → OnWay x z → x < nodes → 1 ≤ z
       → (Before (p .key) v (s x) → ⊥) → Before (p .key) (s z) (s x)
   above s nearly {x} here h one not = before-refl (p .key) (s x)
-  above s nearly {x} {z} (up w) h one not = at (decPos x) (above s nearly w)
+  above s nearly {x} {z} (up w) h one not = at (ℕ-discrete (x / 2) 0) (above s nearly w)
     where
-      decPos : (y : ℕ) → Dec (y / 2 ≡ 0)
-      decPos y = ℕ-discrete (y / 2) 0
-
-      at : Dec (x / 2 ≡ 0) → (x / 2 < nodes → 1 ≤ z → (Before (p .key) v (s (x / 2)) → ⊥) → Before (p .key) (s z) (s (x / 2))) → Before (p .key) (s z) (s x)
+      at :
+          Dec (x / 2 ≡ 0) → (x / 2 < nodes → 1 ≤ z → (Before (p .key) v (s (x / 2)) → ⊥) → Before (p .key) (s z) (s (x / 2)))
+          → Before (p .key) (s z) (s x)
       at (yes e) ih = absurd (omega (arith, way-zero w e))
       at (no n) ih = go (nearly (x / 2) (omega arith) (omega arith) .first x refl)
         where

@@ -29,7 +29,7 @@ use Rattle.semantics.specs.Answers.Graph.{same-sym, number-alike, step-s
 use Rattle.semantics.specs.Answers.Moving.{number-row}
 use Rattle.semantics.specs.Answers.Forward.{corner-inside}
 use Rattle.semantics.specs.Answers.Onward.{step-chain, same-place}
-use Rattle.semantics.specs.Answers.Walk.{NearCosts, OffRoute, Leaves, Walk, walk-begins, walk-few, walk-off, walk-further, walk-ends, walk-deep, walk-back}
+use Rattle.semantics.specs.Answers.Walk.{NearCosts, Stands, OffRoute, Leaves, Walk, walk-begins, stands-from, walk-few, walk-off, walk-further, walk-ends, walk-deep, walk-back}
 use Rattle.semantics.specs.Answers.Marks.{Marks, Led, LeavesMarked, marks-stands, marks-leave, marks-kept, begin-marks, marks-next, none-led}
 use Rattle.semantics.specs.Answers.Led.{led-alike}
 
@@ -77,17 +77,18 @@ module _ (a : Automaton) (ok : Proper a) (l : ℕ) (B : Cost) (best : distance (
     pub trail-marked : (i : ℕ) → i ≤ length ks → (j : ℕ) × sets i j
     trail-marked i h = let o = chain-take a i ks (t .place) (t .walk .ends) in let s = t .footing i (o .0) h (o .1) in (s .corner, s .marked)
 
-    -- and a marked corner is a node, which by the table is reached in as many steps.
+    -- and a marked corner is a node, which by the table is reached in as many steps, at no more than the charge of the route.
     pub trail-entry :
         (i : ℕ) → i ≤ length ks → (j : ℕ) → sets i j
-        → (firsts i + j < cornerGraph a l .nodes) × ((c : ℕ) × (d (firsts i + j) ≡ reached (cost c i)))
+        → (firsts i + j < cornerGraph a l .nodes) × ((c : ℕ) × (c ≤ B .charge) × (d (firsts i + j) ≡ reached (cost c i)))
     trail-entry i h j x =
         let o = chain-take a i ks (t .place) (t .walk .ends) in
         let r = chain-reached a ok (take i ks) (o .0) (o .1) in
         let s = t .footing i (o .0) h (o .1) in
-        let row = footing-row (reached-place a (o .0) r) s j x in (
+        let row = footing-row (reached-place a (o .0) r) s j x in
+        let stood : Stands a d (o .0) i = record { corner = j; there = s .marks .among j x; entry = s .marks .stands j x } in (
           rw row at (corner-inside a ok l (o .0) j r (s .marks .among j x)),
-          (price (o .0 .region) j, rw row at (s .marks .stands j x)),
+          (price (o .0 .region) j, stands-from a ok l B best (t .walk) (o .0) i r stood .1, rw row at (s .marks .stands j x)),
         )
 
     here-place : IsPlace a (t .place)

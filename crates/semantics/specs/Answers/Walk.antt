@@ -129,7 +129,7 @@ module _ (a : Automaton) (ok : Proper a) (l : ℕ) (B : Cost) (best : distance (
 
   module _ {d : ℕ → Entry} {ks : List ℕ} {p : Place} {byte : ℕ} (w : Walk a l d ks p byte) where
     -- Where a place stands, the entry is the least cost from the start, and as near as the goal.
-    stands-from :
+    pub stands-from :
         (q : Place) (n : ℕ) → Reached a q → (t : Stands a d q n)
         → (distance (turned g (startNode a)) (numberOf a q (t .corner)) ≡ reached (cost (price (q .region) (t .corner)) n))
         × (price (q .region) (t .corner) ≤ B .charge) × (n ≤ B .steps)

@@ -1,6 +1,7 @@
 // Plans the tables on standard input, each behind its length in 16 bits, the low byte first, and prints for each what `plan` prints.
 use libc::STDIN_FILENO;
 use libc::STDOUT_FILENO;
+use report::TEXT;
 
 fn main() {
     let mut bytes = io::large_buffer();
@@ -23,10 +24,7 @@ fn each(bytes: &[u8]) {
 }
 
 fn one(table: &[u8]) {
-    let mut words = [0u32; 6000];
-    let mut route = [0u8; 256];
-    let answer = route::plan(table, &mut words, &mut route);
-    let mut text = [0u8; 1100];
-    let length = report::lines(answer, &route, &mut text);
+    let mut text = [0u8; TEXT];
+    let length = report::plan_text(table, &mut text);
     io::write_all(STDOUT_FILENO, &text[..length]);
 }

@@ -1,6 +1,6 @@
 -- `report::lines` meets its contract.
 -- Assumes nothing.
-use Prim.Native.Nat.{_-_, _/_, _<_}
+use Prim.Native.Nat.{_<_}
 use mathlib.Core.Logic.{⊎-elim}
 use native.Mathlib.Omega.{arith}
 use borrow.Author.Needs.{needs}
@@ -14,12 +14,13 @@ use Rattle.report.proofs.lines.Tie as tie
 sub-if2 : tie.Need-sub-if2
 sub-if2 c = search needs
 
--- One of the two tests found it too short.
+-- It is too short for the steps; or already without them.
+short-of-steps : (c : tie.Then2) → (let a = c .before .before .before .before .args in length (a .out .now) < room (length (a .route .now)))
+short-of-steps c = omega (arith, ltb-true)
+
 short : (c : tie.Joined1) → (let a = c .before .before .before .args in length (a .out .now) < room (length (a .route .now)))
 short c =
-    let a = c .before .before .before .args in
-    ⊎-elim (λ w. omega (arith, w .taken))
-    (λ w. omega (arith, w .0 .left, ltb-true ((length (a .out .now) - 24) / 4) (length (a .route .now)) (w .1 .taken)))
+    ⊎-elim (λ w. omega (arith, w .taken)) (λ w. short-of-steps record { before = record { before = c .before; if1 = w .0 }; if2 = w .1 })
     (c .if1 .came)
 
 returns : tie.Need-returns

@@ -5,7 +5,7 @@ use mathlib.Core.List.{List, _++_}
 use Prim.Native.Nat.{ℕ, _+_, _≤_, _<_}
 use native.Mathlib.Omega.{arith}
 use borrow.Author.Tests.{le-leb, lt-leb}
-use lib.ListN.{length, take, drop, replicate, length-append}
+use lib.ListN.{length, take, drop, length-append}
 use lib.Seq.{take-at}
 use Rattle.io.specs.Counts.{Counts}
 use Rattle.route.specs.declared.Answer.{Answer}
@@ -13,7 +13,7 @@ use Rattle.route.specs.Plan.{outcome, planned}
 use Rattle.report.specs.declared.Written.the-variants.{Bytes, TooShort}
 use Rattle.report.specs.Lines.{lines}
 use Rattle.report.specs.Destination.{overwritten, room, filled, linesInto}
-use Rattle.report.specs.Text.{shown, printed, kept, printed-kept}
+use Rattle.report.specs.Text.{shown, lentWords, lentRoute, printed, kept, printed-kept}
 use Rattle.report.specs.Put.{Put}
 
 module _ {w d : List ℕ} {next : ℕ} {e : List ℕ} (p : Put w 0 d next e) where
@@ -36,7 +36,7 @@ module _ (answer : Answer) (rs d : List ℕ) where
       (ap₂ (λ (n : ℕ) (l : List ℕ). filled (Bytes n) l) (start-count p) (start-bytes p))
 
 -- The lines of an outcome of planning with the memory that the unit lends.
-module _ (bytes : List ℕ) {answer : Answer} {ws rs : List ℕ} (o : outcome answer ws rs ≡ planned bytes (replicate 6000 0) (replicate 256 0)) where
+module _ (bytes : List ℕ) {answer : Answer} {ws rs : List ℕ} (o : outcome answer ws rs ≡ planned bytes lentWords lentRoute) where
   lines-printed : lines answer rs ≡ printed bytes
   unfolding printed
   lines-printed = ap shown o

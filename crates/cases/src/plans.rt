@@ -4,6 +4,7 @@ ghost use Prim.Native.Nat.{_≤_};
 ghost use lib.ListN.{length};
 use crate::print;
 use libc::STDOUT_FILENO;
+use report::Written;
 use route::Answer;
 
 const WORDS: usize = 129600;
@@ -52,12 +53,12 @@ fn planned(
 }
 
 // Prints the answer's lines.
-fn show(answer: Answer, route: &[u8])
-    requires { ⌜ length (now route) ≤ 256 ⌝ }
-{
+fn show(answer: Answer, route: &[u8]) {
     let mut text = [0u8; 1100];
-    let length = report::lines(answer, route, &mut text);
-    io::write_all(STDOUT_FILENO, &text[..length]);
+    let written = report::lines(answer, route, &mut text);
+    if let Written::Bytes(length) = written {
+        io::write_all(STDOUT_FILENO, &text[..length]);
+    }
 }
 
 // How many route bytes the answer fills.

@@ -1,10 +1,10 @@
 -- The lines of a refusal and of a route are their texts put one behind another.
 -- Assumes nothing.
-use mathlib.Core.Path.{_≡_, refl, sym, ap, ap₂, _∙_}
+use mathlib.Core.Path.{_≡_, refl}
 use mathlib.Core.List.{List, [], _∷_, _++_}
 use Prim.Native.Nat.{ℕ, _+_, _≤_}
 use native.Mathlib.Omega.{arith}
-use lib.ListN.{length, take, drop, length-append}
+use lib.ListN.{length, take, length-append}
 use Rattle.route.specs.declared.Answer.{Answer}
 use Rattle.route.specs.declared.Answer.the-variants.{Refused, NoRoute, Route}
 use Rattle.report.specs.Lines.{decimal, chargeText, routeText, noRouteText, refusedText, stepTexts, lines}
@@ -67,10 +67,3 @@ lines-none rs e = rw e refl
 
 pub lines-route : (C n : ℕ) (rs : List ℕ) {x : Answer} → x ≡ Route C n → lines x rs ≡ lines (Route C n) rs
 lines-route C n rs e = rw e refl
-
--- A text put at the start.
-pub put-start : {w : List ℕ} {d : List ℕ} {next : ℕ} {e : List ℕ} (l : List ℕ) → l ≡ w → Put w 0 d next e → (next ≡ length l) × (e ≡ l ++ drop next d)
-put-start {w} {d} {next} {e} l s p =
-    let n : next ≡ length l = omega (arith, p .behind, ap length s) in
-    let m : 0 + length w ≡ next = omega (arith, p .behind) in
-    (n, p .bytes ∙ ap₂ (λ (k : ℕ) (v : List ℕ). v ++ drop k d) m (sym s))

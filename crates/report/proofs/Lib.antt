@@ -1,3 +1,4 @@
 pub mod Putting
 pub mod Stepping
 pub mod Chains
+pub mod Filling

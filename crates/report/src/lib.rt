@@ -1,20 +1,65 @@
-// The lines that `plan` prints for an answer.
-ghost use Prim.Native.Nat.{_+_, _*_, _≤_};
+// The text that `plan` prints.
+ghost use Prim.Native.Nat.{ℕ, _+_, _≤_};
 ghost use mathlib.Core.Path.{_≡_};
-ghost use mathlib.Core.List.{_++_, []};
-ghost use lib.ListN.{length, take, drop};
+ghost use mathlib.Core.List.{List, _++_, []};
+ghost use lib.ListN.{length, take};
+ghost use Rattle.io.specs.Counts.{Counts};
+ghost use Rattle.route.specs.declared.Answer.the-variants.{Refused, Route};
 ghost use Rattle.report.specs.Lines.{decimal, stepTexts};
 ghost use Rattle.report.specs.Lines.{lines as Lines·lines};
+ghost use Rattle.report.specs.Destination.{room, overwritten, filled, linesInto};
+ghost use Rattle.report.specs.Text.{printed, kept};
 ghost use Rattle.report.specs.Put.{Put};
-ghost use Rattle.route.specs.declared.Answer.the-variants.{Refused, Route};
 use route::Answer;
 
-// Puts the lines of the answer at the start of out, and says how many bytes they are. The route bytes begin with the route.
-// Out has 24 bytes, and four for each route byte.
-pub fn lines(answer: Answer, route: &[u8], out: &mut [u8]) -> usize
-    requires { ⌜ 24 + 4 * length (now route) ≤ length (now out) ⌝ }
-    ensures count { λ r. ⌜ r ≡ length (Lines·lines answer (now (route .entry))) ⌝ }
-    ensures bytes { λ r. ⌜ now (out .exit) ≡ Lines·lines answer (now (route .entry)) ++ drop r (now (out .entry)) ⌝ }
+// "lends 6,000 words and 256 route bytes".
+const WORDS: usize = 6000;
+
+const ROUTE: usize = 256;
+
+// The longest lines but for their steps, and the longest text of a step: a blank and three digits.
+const FRAME: usize = 24;
+
+const STEP: usize = 4;
+
+// The longest text that is printed.
+pub const TEXT: usize = FRAME + STEP * ROUTE;
+
+// How many bytes were written; or the destination was too short.
+pub enum Written {
+    Bytes(usize),
+    TooShort,
+}
+
+// Plans the table that the bytes are with the memory that the unit lends, puts what `plan` prints at the start of text, and says how many bytes it is.
+pub fn plan_text(bytes: &[u8], text: &mut [u8; TEXT]) -> usize
+    ensures within { λ r. ⌜ Counts r (now (text .exit)) ⌝ }
+    ensures count { λ r. ⌜ r ≡ length (printed (now (bytes .entry))) ⌝ }
+    ensures text { λ r. ⌜ now (text .exit) ≡ overwritten (printed (now (bytes .entry))) (now (text .entry)) ⌝ }
+    ensures kept { λ r. ⌜
+        ((rest : List ℕ) → kept ≤ length (now (bytes .entry)) → take r (now (text .exit)) ≡ printed (now (bytes .entry) ++ rest))
+        ⌝ }
+{
+    let mut words = [0u32; WORDS];
+    let mut route = [0u8; ROUTE];
+    let answer = route::plan(bytes, &mut words, &mut route);
+    put_lines(answer, &route, text)
+}
+
+// Puts the lines of the answer at the start of out. The route bytes begin with the route.
+pub fn lines(answer: Answer, route: &[u8], out: &mut [u8]) -> Written
+    ensures { λ r. ⌜ filled r (now (out .exit)) ≡ linesInto answer (now (route .entry)) (now (out .entry)) ⌝ }
+{
+    if out.len() < FRAME || (out.len() - FRAME) / STEP < route.len() {
+        return Written::TooShort;
+    }
+    Written::Bytes(put_lines(answer, route, out))
+}
+
+// The same for a destination that has the room.
+fn put_lines(answer: Answer, route: &[u8], out: &mut [u8]) -> usize
+    requires { ⌜ room (length (now route)) ≤ length (now out) ⌝ }
+    ensures { λ r. ⌜ Put (Lines·lines answer (now (route .entry))) 0 (now (out .entry)) r (now (out .exit)) ⌝ }
 {
     match answer {
         Answer::Refused(n) => put_refusal(n, out),

@@ -1,6 +1,9 @@
 // Plans the tables on standard input, each behind its length in 16 bits, the low byte first, and prints for each what `plan` prints.
+// The file `stdin` has the 300 tables of the shared vectors, and six at the limits: one that needs 6,000 words and one that needs the next more, 6,006;
+// a route of 256 steps and one of 257; the longest table, whose 16 modes need more words than are lent, and the same with a byte left over.
 use libc::STDIN_FILENO;
 use libc::STDOUT_FILENO;
+use report::TEXT;
 
 fn main() {
     let mut bytes = io::large_buffer();
@@ -23,10 +26,7 @@ fn each(bytes: &[u8]) {
 }
 
 fn one(table: &[u8]) {
-    let mut words = [0u32; 6000];
-    let mut route = [0u8; 256];
-    let answer = route::plan(table, &mut words, &mut route);
-    let mut text = [0u8; 1100];
-    let length = report::lines(answer, &route, &mut text);
+    let mut text = [0u8; TEXT];
+    let length = report::plan_text(table, &mut text);
     io::write_all(STDOUT_FILENO, &text[..length]);
 }

@@ -8,13 +8,10 @@ use Rattle.plan.proofs.skip_rest.Statement.{statement}
 use Rattle.plan.proofs.skip_rest.Tie as tie
 
 abbrev Inv-loop : tie.InvT-loop
-Inv-loop count rest₀ counter₀ rest counter = (counter ≤ 4294967295) × (length rest ≡ 4096)
+Inv-loop rest₀ counter₀ rest counter = (counter ≤ 4294967295) × (length rest ≡ 4096)
 
 abbrev μ-loop : tie.MeasureT-loop
-μ-loop count rest₀ counter₀ rest counter = 4294967295 - counter
-
-returns : tie.Need-returns Inv-loop μ-loop
-returns c = tt
+μ-loop rest₀ counter₀ rest counter = 4294967295 - counter
 
 buffer-requires : tie.Need-buffer-requires Inv-loop μ-loop
 buffer-requires c κs = tt
@@ -28,8 +25,8 @@ slice-aggregate-read-full c = search needs
 read-full-requires : tie.Need-read-full-requires Inv-loop μ-loop
 read-full-requires c κs = tt
 
-returns-2 : tie.Need-returns-2 Inv-loop μ-loop
-returns-2 c = tt
+returns : tie.Need-returns Inv-loop μ-loop
+returns c = tt
 
 add-counter : tie.Need-add-counter Inv-loop μ-loop
 add-counter c = search needs
@@ -40,8 +37,8 @@ loop-less c = search needs
 loop-again : tie.Need-loop-again Inv-loop μ-loop
 loop-again c = search needs
 
-returns-3 : tie.Need-returns-3 Inv-loop μ-loop
-returns-3 c = tt
+returns-2 : tie.Need-returns-2 Inv-loop μ-loop
+returns-2 c = tt
 
 pub skip-rest-spec : {M : Type 1} → statement M
 skip-rest-spec =
@@ -49,13 +46,12 @@ skip-rest-spec =
     (tie.spec
     Inv-loop
     μ-loop
-    returns
     buffer-requires
     loop-holds
     slice-aggregate-read-full
     read-full-requires
-    returns-2
+    returns
     add-counter
     loop-less
     loop-again
-    returns-3)
+    returns-2)

@@ -1,86 +1,41 @@
 -- `report::lines` meets its contract.
 -- Assumes nothing.
-use mathlib.Core.List.{[]}
+use Prim.Native.Nat.{_<_}
+use mathlib.Core.Logic.{⊎-elim}
 use native.Mathlib.Omega.{arith}
 use borrow.Author.Needs.{needs}
-use Rattle.route.specs.declared.Answer.the-variants.{Refused, Route}
-use Rattle.report.specs.Lines.{lines}
-use Rattle.report.specs.Short.{AreBytes, lines-short}
-use Rattle.report.proofs.Chains.{lines-refused, lines-none, lines-route, put-start}
+use borrow.Author.Tests.{ltb-true, ltb-false}
+use lib.ListN.{length}
+use Rattle.report.specs.Destination.{room}
+use Rattle.report.proofs.Filling.{lines-refused-short, lines-put}
 use Rattle.report.proofs.lines.Statement.{statement}
 use Rattle.report.proofs.lines.Tie as tie
 
-enum-known-answer : tie.Need-enum-known-answer
-enum-known-answer c = search needs
+sub-if2 : tie.Need-sub-if2
+sub-if2 c = search needs
 
-put-refusal-requires : tie.Need-put-refusal-requires
-put-refusal-requires c κs =
-    let n = c .before .before .answer .given .0 .0 in
-    let short = lines-short (Refused n) [] (omega (arith, c .before .known-told .given)) (λ i l. absurd (omega arith)) in
-    omega (arith, c .before .before .before .before .before .before .pre, short)
+-- It is too short for the steps; or already without them.
+short-of-steps : (c : tie.Then2) → (let a = c .before .before .before .before .args in length (a .out .now) < room (length (a .route .now)))
+short-of-steps c = omega (arith, ltb-true)
 
-enum-told : tie.Need-enum-told
-enum-told c = search needs
+short : (c : tie.Joined1) → (let a = c .before .before .before .args in length (a .out .now) < room (length (a .route .now)))
+short c =
+    ⊎-elim (λ w. omega (arith, w .taken)) (λ w. short-of-steps record { before = record { before = c .before; if1 = w .0 }; if2 = w .1 })
+    (c .if1 .came)
 
-slice-aggregate-put-text : tie.Need-slice-aggregate-put-text
-slice-aggregate-put-text c = search needs
+returns : tie.Need-returns
+returns c = let a = c .before .before .before .args in lines-refused-short (a .answer) (a .route .now) (a .out .now) (short c)
 
-put-text-requires : tie.Need-put-text-requires
-put-text-requires c κs = omega (arith, c .before .before .before .before .before .before .pre)
-
-enum-known-answer-2 : tie.Need-enum-known-answer-2
-enum-known-answer-2 c = search needs
-
-put-route-requires : tie.Need-put-route-requires
-put-route-requires c κs =
-    let known = c .before .before .before .before .before in
-    let charge = c .before .before .answer2 .given .0 .0 in
-    let steps = c .before .before .answer2 .given .0 .1 .0 in
-    let route = known .before .args .route .now in
-    let bytes : AreBytes route = λ i l. omega (arith, known .shared-slice-known .given i) in
-    omega (arith, known .before .pre, lines-short (Route charge steps) route (omega (arith, c .before .known-told2 .given)) bytes)
+put-lines-requires : tie.Need-put-lines-requires
+put-lines-requires c κs = omega (arith, ltb-false)
 
 same-length : tie.Need-same-length
 same-length c = search needs
 
-returns : tie.Need-returns
-returns c =
-    let s = c .before .before .before .before .before .before .before .before .before in
-    let e = lines-refused (c .before .before .before .before .before .answer .given .0 .0) (s .args .route .now) (c .before .before .before .before .before .answer .given .1) in
-    put-start (lines (s .args .answer) (s .args .route .now)) e (c .before .before .put-refusal .ensures)
-
-same-length-2 : tie.Need-same-length-2
-same-length-2 c = search needs
-
 returns-2 : tie.Need-returns-2
 returns-2 c =
-    let s = c .before .before .before .before .before .before .before .before .before in
-    let e = lines-none (s .args .route .now) (c .before .before .before .before .before .enum-told .given .1) in
-    put-start (lines (s .args .answer) (s .args .route .now)) e (c .before .before .put-text .ensures)
-
-same-length-3 : tie.Need-same-length-3
-same-length-3 c = search needs
-
-returns-3 : tie.Need-returns-3
-returns-3 c =
-    let s = c .before .before .before .before .before .before .before .before .before in
-    let e = lines-route (c .before .before .before .before .before .answer2 .given .0 .0) (c .before .before .before .before .before .answer2 .given .0 .1 .0) (s .args .route .now) (c .before .before .before .before .before .answer2 .given .1) in
-    put-start (lines (s .args .answer) (s .args .route .now)) e (c .before .before .put-route .ensures)
+    let a = c .before .before .before .before .before .before .before .before .args in
+    lines-put (a .answer) (a .route .now) (a .out .now) (omega (arith, ltb-false)) (c .before .before .put-lines .ensures)
 
 pub lines-spec : {M : Type 1} → statement M
-lines-spec =
-    tie.close
-    (tie.spec
-    enum-known-answer
-    put-refusal-requires
-    enum-told
-    slice-aggregate-put-text
-    put-text-requires
-    enum-known-answer-2
-    put-route-requires
-    same-length
-    returns
-    same-length-2
-    returns-2
-    same-length-3
-    returns-3)
+lines-spec = tie.close (tie.spec sub-if2 returns put-lines-requires same-length returns-2)

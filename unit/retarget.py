@@ -1,0 +1,84 @@
+#!/usr/bin/env python3
+"""retarget.py CLANG TRIPLE IN.ll OUT.ll WIDE.h: makes IR that was emitted for x86-64 into IR for a 32-bit target.
+
+It refuses IR whose meaning could change on the way. It changes the data layout and the triple, removes the attributes of x86, keeps the functions of APART out of
+line, and renames each exported call NAME to wide_NAME: a slice is a pointer and a length of 64 bits there. WIDE.h declares those for shim.c, which has the calls of
+planner.h.
+"""
+import re
+import subprocess
+import sys
+
+# Inlined into one another these would have their frames, each with copies of a table, on the stack at once; apart they use the same stack one after the other.
+APART = ['reader::read', 'search::search', 'route::read_route']
+
+C_TYPES = {'void': 'void', 'i8': 'uint8_t', 'i16': 'uint16_t', 'i32': 'uint32_t', 'i64': 'uint64_t', 'ptr': 'const void *'}
+
+
+def need(holds, why):
+    if not holds:
+        sys.exit('retarget: ' + why)
+
+
+def refuse_unportable(ir):
+    """A pointer has 32 bits on the target. So no pointer is made a number; objects are reached by byte offsets, which leave each pointer 8 bytes; and alignments
+    do not come from the layout."""
+    for line in ir.splitlines():
+        if not re.match(r'\s', line):
+            continue
+        need(not re.search(r'\b(ptrtoint|inttoptr|i128|asm|vscale)\b|<\d+ x ', line), 'not portable: ' + line)
+        need(', align ' in line or not re.search(r'= alloca | load | store ', line), 'no alignment: ' + line)
+        need('getelementptr' not in line or re.search(r'getelementptr( inbounds| nuw| nusw)* i8, ptr', line), 'not a byte offset: ' + line)
+
+
+def layout_and_triple(clang, triple):
+    empty = subprocess.run([clang, '--no-default-config', '--target=' + triple, '-S', '-emit-llvm', '-x', 'c', '-', '-o', '-'], input='', check=True, capture_output=True,
+                           text=True).stdout
+    layout, triple = (re.search(r'^target %s = .*$' % word, empty, re.M).group(0) for word in ('datalayout', 'triple'))
+    need(re.match(r'target datalayout = "e-.*p:32:32-.*i64:64-', layout), 'neither little-endian with pointers of 32 bits nor i64 aligned by 8: ' + layout)
+    return layout, triple
+
+
+def keep_apart(ir, name):
+    ir, count = re.subn(r'^(define internal [^@]*@"%s"\(.*\)) (#\d+ \{)$' % re.escape(name), r'\1 noinline \2', ir, flags=re.M)
+    need(count == 1, 'APART names %s, which is not in the bitcode' % name)
+    return ir
+
+
+def rename_exports(ir):
+    """The callee extends a result of 8 or 16 bits to the register on Arm, which the IR leaves open: `zeroext`."""
+    prototypes = []
+
+    def rename(match):
+        result, name, parameters = match.groups()
+        types = [parameter.split()[0] for parameter in parameters.split(', ') if parameter]
+        for kind in [result] + types:
+            need(kind in C_TYPES, '%s has the type %s, for which there is no rule' % (name, kind))
+        prototypes.append('%s wide_%s(%s);\n' % (C_TYPES[result], name, ', '.join(C_TYPES[kind] for kind in types) or 'void'))
+        return 'define hidden %s%s @wide_%s(%s)' % ('zeroext ' if result in ('i8', 'i16') else '', result, name, parameters)
+
+    ir = re.sub(r'^define (?!internal)(?:noundef )?(?:zeroext )?(\S+) @(\w+)\(([^)]*)\)', rename, ir, flags=re.M)
+    need(prototypes and not re.search(r'^define (?!internal|hidden)', ir, re.M), 'an exported call is not of the known form')
+    return ir, prototypes
+
+
+def main(clang, triple, source, target, header):
+    with open(source) as file:
+        ir = file.read()
+    refuse_unportable(ir)
+    for line in layout_and_triple(clang, triple):
+        ir, count = re.subn(r'^%s = .*$' % line.split(' = ')[0], line, ir, flags=re.M)
+        need(count == 1, 'no line for ' + line)
+    ir = re.sub(r' "(target-cpu|target-features|tune-cpu|probe-stack)"="[^"]*"', '', ir)
+    need('x86' not in ir, 'something of x86 is left')
+    for name in APART:
+        ir = keep_apart(ir, name)
+    ir, prototypes = rename_exports(ir)
+    with open(target, 'w') as file:
+        file.write(ir)
+    with open(header, 'w') as file:
+        file.write('/* Written by unit/retarget.py: the exported calls as the bitcode has them. */\n#include <stdint.h>\n' + ''.join(prototypes))
+
+
+if __name__ == '__main__':
+    main(*sys.argv[1:])

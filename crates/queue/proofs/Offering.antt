@@ -7,7 +7,7 @@ use Prim.Native.Nat.{ℕ, _%_, _≤_, _<_}
 use native.Mathlib.Omega.{arith}
 use Rattle.semantics.specs.Path.{cost, chargeAt, stepsAt, _≼_, _≺_}
 use Rattle.semantics.specs.Paths.Cost.{not-both}
-use Rattle.queue.specs.Queue.{lows, costIn, LowerDone, OfferReady, OfferDone}
+use Rattle.queue.specs.Queue.{costIn, LowerDone, OfferReady, OfferDone}
 use Rattle.queue.specs.Laws.Lows.{lows-charge, lows-steps}
 
 module _ (nodes v charge steps : ℕ) (ws : List ℕ) (ready : OfferReady nodes v charge steps ws) where

@@ -8,8 +8,11 @@ use mathlib.Core.List.{List, [], _∷_}
 use Prim.Native.Nat.{ℕ, zero, suc, _+_, _*_, _/_, _%_, _≤_, _<_}
 use lib.Dec.{eqb, leb}
 use lib.ListN.{length, getD}
-use Rattle.semantics.specs.Order.{cost, _≺_}
+<<<<<<< HEAD
+use Rattle.semantics.specs.Order.{cost, _≺_, Cost, _≼_}
 use Rattle.semantics.specs.Graph.Path.{infinity, chargeAt, stepsAt}
+=======
+>>>>>>> d971c60c46a938a0fcf9bff38841fb8f5c911d11
 use Rattle.semantics.specs.Paths.Words.{stored}
 use Rattle.queue.specs.Tournament.{none, Players, AllFair}
 
@@ -59,18 +62,31 @@ pub record Queue (nodes upto : ℕ) (ws : List ℕ) : Type 0 where
   pub words : QueueRoom nodes ws
   pub fair : AllFair nodes (players upto (lows nodes ws)) (slotAt ws)
 
--- What `lower` asks: a cost that is less than the node's.
-pub record LowerReady (nodes node charge steps : ℕ) (ws : List ℕ) : Type 0 where
+-- The cost of a node.
+abbrev pub costIn : ℕ → List ℕ → ℕ → Cost
+costIn nodes ws v = cost (chargeAt (lows nodes ws) v) (stepsAt (lows nodes ws) v)
+
+-- What `offer` asks: a cost for a node.
+pub record OfferReady (nodes node charge steps : ℕ) (ws : List ℕ) : Type 0 where
   pub words : QueueRoom nodes ws
   pub there : node < nodes
   pub fits : steps < 65536
   pub known : charge ≢ infinity
-  pub less : cost charge steps ≺ cost (chargeAt (lows nodes ws) node) (stepsAt (lows nodes ws) node)
+
+-- What `lower` asks: one that is less than the node's.
+pub record LowerReady (nodes node charge steps : ℕ) (ws : List ℕ) : Type 0 where
+  pub offer : OfferReady nodes node charge steps ws
+  pub less : cost charge steps ≺ costIn nodes ws node
 
 -- What it does: the cost is stored; and a queue up to any key is one again, unless the new key is settled already.
 pub record LowerDone (nodes node charge steps : ℕ) (ws ws′ : List ℕ) : Type 0 where
   pub costs : lows nodes ws′ ≡ stored (lows nodes ws) node (cost charge steps)
   pub queue : (upto : ℕ) → Queue nodes upto ws → upto ≤ keyOf charge steps node → Queue nodes upto ws′
+
+-- What `offer` does: the same if the cost is less than the node's, and nothing if it is not.
+pub record OfferDone (nodes node charge steps : ℕ) (ws ws′ : List ℕ) : Type 0 where
+  pub taken : cost charge steps ≺ costIn nodes ws node → LowerDone nodes node charge steps ws ws′
+  pub passed : costIn nodes ws node ≼ cost charge steps → ws′ ≡ ws
 
 -- What `settle` asks: the node is the first of a queue.
 pub record SettleReady (nodes node : ℕ) (ws : List ℕ) : Type 0 where

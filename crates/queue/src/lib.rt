@@ -5,7 +5,7 @@ ghost use Prim.Native.Nat.{suc, _+_, _*_, _%_, _≤_, _<_};
 ghost use lib.ListN.{length};
 ghost use Rattle.semantics.specs.Graph.Path.{chargeAt, stepsAt};
 ghost use Rattle.queue.specs.Tournament.{none, Match, winner};
-ghost use Rattle.queue.specs.Queue.{lows, slotAt, players, QueueRoom, LowerReady, LowerDone, SettleReady, SettleDone};
+ghost use Rattle.queue.specs.Queue.{lows, slotAt, players, QueueRoom, OfferReady, OfferDone, LowerReady, LowerDone, SettleReady, SettleDone};
 ghost use Rattle.queue.specs.Playing.{keyIn, Seat, put, Place, GoneUp};
 
 // Nobody: what a slot holds if no node below it is pending.
@@ -124,6 +124,23 @@ pub fn lower(words: &mut [u32], nodes: usize, node: usize, charge: u32, steps: u
     words[2 * node] = charge;
     words[2 * node + 1] = high * HALF + steps;
     raise(words, nodes, node);
+}
+
+// A node is offered a cost, and gets it if it is less than its own.
+pub fn offer(words: &mut [u32], nodes: usize, node: usize, charge: u32, steps: u32)
+    requires { ⌜ OfferReady nodes node charge steps (now words) ⌝ }
+    ensures { λ _. ⌜ OfferDone nodes node charge steps (now (words .entry)) (now (words .exit)) ⌝ }
+{
+    let own = charge_of(words, node);
+    if own < charge {
+        return;
+    }
+    if own == charge {
+        if steps_of(words, node) <= steps {
+            return;
+        }
+    }
+    lower(words, nodes, node, charge, steps);
 }
 
 // The first of the pending nodes is settled: the matches on the way up from its leaf are played again without it.

@@ -106,7 +106,7 @@ module _ (n : ℕ) (ws : List ℕ) where
 
   -- One slot more left out.
   pub lows-next : lows (n + 1) ws ≡ set (lows n ws) (2 * n + 1) (stepsAt (lows n ws) n % 65536)
-  lows-next = rw add-one (next-lows n ws (2 * n + 1) refl)
+  lows-next = rw (add-one n) (next-lows n ws (2 * n + 1) refl)
 
   -- A store that changes a slot alone.
   pub lows-same : (v x : ℕ) → v < n → x % 65536 ≡ stepsAt ws v % 65536 → lows n (set ws (2 * v + 1) x) ≡ lows n ws

@@ -8,11 +8,8 @@ use mathlib.Core.List.{List, [], _∷_}
 use Prim.Native.Nat.{ℕ, zero, suc, _+_, _*_, _/_, _%_, _≤_, _<_}
 use lib.Dec.{eqb, leb}
 use lib.ListN.{length, getD}
-<<<<<<< HEAD
-use Rattle.semantics.specs.Order.{cost, _≺_, Cost, _≼_}
+use Rattle.semantics.specs.Order.{Cost, cost, _≼_, _≺_}
 use Rattle.semantics.specs.Graph.Path.{infinity, chargeAt, stepsAt}
-=======
->>>>>>> d971c60c46a938a0fcf9bff38841fb8f5c911d11
 use Rattle.semantics.specs.Paths.Words.{stored}
 use Rattle.queue.specs.Tournament.{none, Players, AllFair}
 

@@ -3,23 +3,23 @@
 use mathlib.Core.Path.{_≡_, refl, ap, _∙_, sym}
 use mathlib.Core.Bool.{Bool, true, _&&_}
 use mathlib.Core.List.{List, [], _∷_}
-use Prim.Native.Nat.{ℕ, zero, suc, _+_, _-_, _*_, _/_, _%_, _<_, _≤_, _^_, max}
+use Prim.Native.Nat.{ℕ, zero, suc, _+_, _-_, _*_, _/_, _%_, _<_, _≤_, max}
 use native.Mathlib.Omega.{arith}
-use borrow.Author.Tests.{eqb-true}
+use borrow.Author.Tests.{eqb-true, lt-ltb, le-ltb}
 use lib.Dec.{eqb}
-use lib.ListN.{getD}
+use lib.ListN.{length, getD, take}
 use Rattle.semantics.specs.Region.{PricedRegion}
-use Rattle.semantics.specs.Corner.{Corner, cornerOf, corners, cornerCount, sameList, cornerNumber, cornerAt}
+use Rattle.semantics.specs.Corner.{Corner, cornerOf, corners, cornerCount, countFrom, sameList, cornerNumber, cornerAt}
 use Rattle.semantics.specs.Regions.Compare.{and-true-iff}
-use Rattle.semantics.specs.Corners.Every.{everyFrom, every-at}
-use Rattle.semantics.specs.Corners.Count.{corners-length}
-use Rattle.semantics.specs.Corners.Number.{sameList-eq}
+use Rattle.semantics.specs.Corners.Lists.{length-countFrom, getD-countFrom}
+use Rattle.semantics.specs.Corners.Every.{every, every-mem, everyFrom, every-at}
+use Rattle.semantics.specs.Corners.Number.{sameList-eq, cornerAt-listed}
+use Rattle.semantics.specs.Corners.Rising.{number-index}
 use Rattle.regions.specs.declared.Region.{Region}
-use Rattle.regions.specs.declared.CornerAt.{CornerAt}
+use Rattle.regions.specs.declared.tables.CornerAt.{CornerAt}
 use Rattle.regions.specs.Held.{pad, highest, packCorner}
-use Rattle.regions.specs.Tables.{firstRows, cornerRows}
-use Rattle.regions.specs.Laws.Fields.{Holds, group-at}
-use Rattle.regions.specs.Laws.Corners.{corner-below, corner-again}
+use Rattle.regions.specs.Tables.{entryOf, IsRow, timersAt, firstAt, byteOf, cornerByte}
+use Rattle.regions.specs.Laws.Fields.{Holds, group-at, group-length, group-few, prices-many}
 
 -- What holds for no timer, one, two and three holds for every number of timers that the code takes.
 up-to-three : (P : ℕ → Type 0) → P 0 → P 1 → P 2 → P 3 → (n : ℕ) → n ≤ 3 → P n
@@ -45,57 +45,109 @@ last-row n k few h = omega (arith, none-below n k h)
 pub counts-right : (n : ℕ) → n ≤ 3 → getD (1 ∷ 3 ∷ 13 ∷ 75 ∷ []) n 0 ≡ cornerCount n 1
 counts-right = up-to-three (λ n. getD (1 ∷ 3 ∷ 13 ∷ 75 ∷ []) n 0 ≡ cornerCount n 1) refl refl refl refl
 
--- An entry of a table in rows.
-abbrev entry : List ℕ → ℕ → ℕ → ℕ
-entry t row column = getD t row 0 / 2 ^ (8 * column) % 256
+-- A row is right if its eight entries are.
+unfoldable pub rowTest : (ℕ → ℕ) → ℕ → ℕ → Bool
+rowTest f row r = everyFrom (λ column place. eqb (entryOf r column) (f place)) 0 (countFrom (8 * row) 8)
 
--- The place in the table of first corners for a number of timers and their groups.
+pub row-is : (f : ℕ → ℕ) {row k r : ℕ} → row ≡ k → rowTest f k r ≡ true → IsRow f row r
+unfolding rowTest
+row-is f {row} {k} {r} e t = record {
+  entry = λ column h.
+      let at = eqb-true _ _ (every-at (λ c place. eqb (entryOf r c) (f place)) (countFrom (8 * k) 8) t column 0 (rw (length-countFrom (8 * k) 8) h)) in
+      rw (e, ← getD-countFrom (8 * k) 8 column 0 h) at;
+}
+
+pub entry-is : (f : ℕ → ℕ) (place : ℕ) {r : ℕ} → IsRow f (place / 8) r → entryOf r (place % 8) ≡ f place
+entry-is f place h =
+    let column : place % 8 < 8 = omega arith in
+    let back : 8 * (place / 8) + place % 8 ≡ place = omega arith in
+    h .entry (place % 8) column ∙ ap f back
+
+-- The place of the groups of n timers in the table of first corners.
 abbrev place : ℕ → List ℕ → ℕ
 place n group = 16 * (n - 1 + getD group 2 0) + 4 * getD group 0 0 + getD group 1 0
 
--- What stands there: the number of the region's first corner.
-abbrev first : ℕ → List ℕ → ℕ
-first n group = entry firstRows (place n group / 8) (place n group % 8)
+-- The table's entry there is the number of the region's first corner.
+first-from :
+    (p n : ℕ) (group : List ℕ) → timersAt p ≡ n → take n (p / 4 % 4 ∷ p % 4 ∷ (p / 16 - 2) ∷ []) ≡ group
+    → firstAt p ≡ cornerNumber n (record { group = group; index = 0 })
+first-from p n group e k =
+    ap (λ (m : ℕ). cornerNumber m (record { group = take m (p / 4 % 4 ∷ p % 4 ∷ (p / 16 - 2) ∷ []); index = 0 })) e
+    ∙ ap (λ (g : List ℕ). cornerNumber n (record { group = g; index = 0 })) k
 
--- The number that the table gives a corner.
-abbrev numbered : ℕ → Corner → ℕ
-numbered n c = first n (c .group) + c .index
+first-is :
+    (group : List ℕ) → 0 < length group → length group ≤ 3 → ((i : ℕ) → getD group i 0 ≤ 3)
+    → firstAt (place (length group) group) ≡ cornerNumber (length group) (record { group = group; index = 0 })
+first-is [] some few small = absurd (omega arith)
+first-is (a ∷ []) some few small =
+    let p = place 1 (a ∷ []) in
+    let t : timersAt p ≡ 1 = omega (arith, small 0) in
+    let x : p / 4 % 4 ≡ a = omega (arith, small 0) in
+    first-from p 1 (a ∷ []) t (λ i. x i ∷ [])
+first-is (a ∷ b ∷ []) some few small =
+    let p = place 2 (a ∷ b ∷ []) in
+    let t : timersAt p ≡ 2 = omega (arith, small 0, small 1) in
+    let x : p / 4 % 4 ≡ a = omega (arith, small 0, small 1) in
+    let y : p % 4 ≡ b = omega (arith, small 0, small 1) in
+    first-from p 2 (a ∷ b ∷ []) t (λ i. x i ∷ y i ∷ [])
+first-is (a ∷ b ∷ d ∷ []) some few small =
+    let p = place 3 (a ∷ b ∷ d ∷ []) in
+    let t : timersAt p ≡ 3 = omega (arith, small 0, small 1, small 2) in
+    let x : p / 4 % 4 ≡ a = omega (arith, small 0, small 1, small 2) in
+    let y : p % 4 ≡ b = omega (arith, small 0, small 1, small 2) in
+    let z : p / 16 - 2 ≡ d = omega (arith, small 0, small 1, small 2) in
+    first-from p 3 (a ∷ b ∷ d ∷ []) t (λ i. x i ∷ y i ∷ z i ∷ [])
+first-is (a ∷ b ∷ d ∷ e ∷ l) some few small = absurd (omega arith)
 
--- That is the corner's place in the list of corners.
-numberTest : ℕ → Bool
-numberTest n = everyFrom (λ i c. eqb (numbered n c) i) 0 (corners n)
-
-numbers-right : (n : ℕ) → n ≤ 3 → numberTest n ≡ true
-unfolding numberTest
-numbers-right = up-to-three (λ n. numberTest n ≡ true) refl refl refl refl
-
-number-right : (n i : ℕ) → n ≤ 3 → i < cornerCount n 1 → numbered n (cornerAt n i) ≡ i
-unfolding numberTest cornerAt
-number-right n i few there =
-    eqb-true _ i (every-at (λ k c. eqb (numbered n c) k) (corners n) (numbers-right n few) i _ (rw (corners-length n) there))
-
+-- The table's entry for a struct, and a corner's index, give the number of the corner.
 pub number-is :
     (s : Region) (r : PricedRegion) → Holds s r → (j : ℕ) → j ≤ s .top
-    → first (s .timers) (s .group) + j ≡ cornerNumber (s .timers) (cornerOf r j)
+    → firstAt (place (s .timers) (s .group)) + j ≡ cornerNumber (s .timers) (cornerOf r j)
 number-is s r h j there =
     let at = group-at s r h in
-    rw (at 0, at 1, at 2)
-    (ap (numbered (s .timers)) (sym (corner-again s r h j there)) ∙ number-right (s .timers) _ (h .few) (corner-below s r h j there))
+    let n = group-length s r h in
+    let few : length (r .group) ≤ 3 = omega (arith, n, h .few) in
+    let some : 0 < length (r .group) = omega (arith, h .wellFormed .paired, h .wellFormed .some) in
+    let first = first-is (r .group) some few (λ i. omega (arith, at i, group-few s r h i)) in
+    let inside : j < length (r .prices) = omega (arith, prices-many s r h) in
+    let row = number-index r (h .wellFormed) j inside in
+    rw (at 0, at 1, at 2, ← n, first) (sym (rw (← h .wellFormed .paired) at row))
 
--- The code's table ROW.
-abbrev rows : List ℕ
-rows = 0 ∷ 0 ∷ 1 ∷ 3 ∷ []
+-- The code's table FIRST_PLACES.
+abbrev pub firstPlaces : List ℕ
+firstPlaces = 0 ∷ 0 ∷ 8 ∷ 24 ∷ []
 
--- The corner that the tables give a number: its index and its groups as digits of base 4.
+-- The place of a corner is in the table, and the entry there is the corner.
+pub place-in : (n : ℕ) → n ≤ 3 → (i : ℕ) → i < cornerCount n 1 → getD firstPlaces n 0 + i < 104
+place-in =
+    up-to-three (λ n. (i : ℕ) → i < cornerCount n 1 → getD firstPlaces n 0 + i < 104)
+    (λ i h. let b : i < 1 = h in omega arith)
+    (λ i h. let b : i < 3 = h in omega arith)
+    (λ i h. let b : i < 13 = h in omega arith)
+    (λ i h. let b : i < 75 = h in omega arith)
+
+pub byte-is : (n : ℕ) → 1 ≤ n → n ≤ 3 → (i : ℕ) → i < cornerCount n 1 → cornerByte (getD firstPlaces n 0 + i) ≡ byteOf (cornerAt n i)
+byte-is zero some few i there = absurd (omega arith)
+byte-is (suc zero) some few i there =
+    let b : i < 3 = there in
+    let e : 0 + i ≡ i = omega arith in
+    rw (e, lt-ltb i 8 (omega arith)) refl
+byte-is (suc (suc zero)) some few i there =
+    let b : i < 13 = there in
+    let f : 8 + i - 8 ≡ i = omega arith in
+    rw (le-ltb (8 + i) 8 (omega arith), lt-ltb (8 + i) 24 (omega arith), f) refl
+byte-is (suc (suc (suc zero))) some few i there =
+    let f : 24 + i - 24 ≡ i = omega arith in
+    rw (le-ltb (24 + i) 8 (omega arith), le-ltb (24 + i) 24 (omega arith), f) refl
+byte-is (suc (suc (suc (suc n)))) some few i there = absurd (omega arith)
+
+-- What the code makes of a byte.
 abbrev decoded : ℕ → CornerAt
 decoded x = record {
   group = x / 16 % 4 ∷ x / 4 % 4 ∷ x % 4 ∷ [];
   index = x / 64;
   top = max (x / 16 % 4) (max (x / 4 % 4) (x % 4));
 }
-
-abbrev coded : ℕ → ℕ → ℕ
-coded n i = entry cornerRows (getD rows n 0 + i / 8) (i % 8)
 
 holdsCorner : CornerAt → Corner → Bool
 holdsCorner r c = sameList (r .group) (pad 3 (c .group)) && (eqb (r .index) (c .index) && eqb (r .top) (highest (c .group)))
@@ -110,25 +162,14 @@ holds-corner r c e =
     let k = eqb-true (r .top) (highest (c .group)) (q .1) in
     λ x. record { group = g x; index = i x; top = k x }
 
--- That is the corner at that place in the list of corners.
-cornerTest : ℕ → Bool
-cornerTest n = everyFrom (λ i c. holdsCorner (decoded (coded n i)) c) 0 (corners n)
+-- The byte of every corner gives the corner.
+byteTest : ℕ → Bool
+byteTest n = every (λ c. holdsCorner (decoded (byteOf c)) c) (corners n)
 
-corners-right : (n : ℕ) → n ≤ 3 → cornerTest n ≡ true
-unfolding cornerTest holdsCorner
-corners-right = up-to-three (λ n. cornerTest n ≡ true) refl refl refl refl
+bytes-right : (n : ℕ) → n ≤ 3 → byteTest n ≡ true
+unfolding byteTest holdsCorner
+bytes-right = up-to-three (λ n. byteTest n ≡ true) refl refl refl refl
 
-pub corner-is : (n i : ℕ) → n ≤ 3 → i < cornerCount n 1 → decoded (coded n i) ≡ packCorner (cornerAt n i)
-unfolding cornerTest cornerAt
-corner-is n i few there =
-    holds-corner _ _
-    (every-at (λ k c. holdsCorner (decoded (coded n k)) c) (corners n) (corners-right n few) i _ (rw (corners-length n) there))
-
--- The row is in the table.
-pub row-in : (n : ℕ) → n ≤ 3 → (i : ℕ) → i < cornerCount n 1 → getD rows n 0 + i / 8 < 13
-row-in =
-    up-to-three (λ n. (i : ℕ) → i < cornerCount n 1 → getD rows n 0 + i / 8 < 13)
-    (λ i h. let b : i < 1 = h in omega arith)
-    (λ i h. let b : i < 3 = h in omega arith)
-    (λ i h. let b : i < 13 = h in omega arith)
-    (λ i h. let b : i < 75 = h in omega arith)
+pub corner-is : (n i : ℕ) → n ≤ 3 → i < cornerCount n 1 → decoded (byteOf (cornerAt n i)) ≡ packCorner (cornerAt n i)
+unfolding byteTest
+corner-is n i few there = holds-corner _ _ (every-mem (λ c. holdsCorner (decoded (byteOf c)) c) (corners n) (bytes-right n few) _ (cornerAt-listed n i there))

@@ -9,7 +9,7 @@ pub use Rattle.semantics.specs.CornerGraph.{highest}
 pub use Rattle.reader.specs.Fields.{mostTimers}
 pub use Rattle.reader.specs.Held.{pad}
 use Rattle.regions.specs.declared.Region.{Region}
-use Rattle.regions.specs.declared.CornerAt.{CornerAt}
+use Rattle.regions.specs.declared.tables.CornerAt.{CornerAt}
 
 -- "one to four corner prices with three timers".
 abbrev pub mostCorners : ℕ

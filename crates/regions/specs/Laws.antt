@@ -4,5 +4,5 @@ pub mod Fields
 pub mod Chain
 pub mod Room
 pub mod Corners
-pub mod CornerRegion
 pub mod Nodes
+pub mod Around

@@ -3,15 +3,18 @@
 use mathlib.Core.Path.{_≡_}
 use mathlib.Core.Bool.{cond}
 use mathlib.Core.List.{List}
-use Prim.Native.Nat.{ℕ, _≤_}
+use Prim.Native.Nat.{ℕ, suc, _≤_}
 use lib.Dec.{leb}
 use lib.ListN.{getD, take}
-use Rattle.semantics.specs.Node.{Node, factor}
+use Rattle.semantics.specs.Region.{PricedRegion}
+use Rattle.semantics.specs.Corner.{countFrom}
+use Rattle.semantics.specs.Node.{Node, nodeOf, factor, nodeNumber}
 pub use Rattle.reader.specs.Fields.{mostModes, mostCeiling}
 use Rattle.regions.specs.declared.nodes.Nodes.{Nodes}
 use Rattle.regions.specs.declared.nodes.Nodes.the-variants.{Count, TooMany}
 use Rattle.regions.specs.declared.nodes.NodeAt.{NodeAt}
-use Rattle.regions.specs.Held.{mostTimers, pad, packCorner}
+use Rattle.regions.specs.declared.nodes.Around.{Around}
+use Rattle.regions.specs.Held.{mostTimers, pad, pack, highest, packCorner}
 
 -- No ceiling of the array is above the greatest.
 abbrev pub CeilingsFew : List ℕ → Type 0
@@ -44,3 +47,16 @@ Padded n ceilings = ceilings ≡ pad mostTimers (take n ceilings)
 -- The struct that holds a node.
 unfoldable pub packNode : Node → NodeAt
 packNode x = record { mode = x .mode; whole = pad mostTimers (x .whole); corner = packCorner (x .corner) }
+
+-- The region of which a node is a corner, with its corners' indices as prices.
+abbrev pub regionAround : Node → PricedRegion
+regionAround x = record { whole = x .whole; group = x .corner .group; prices = countFrom 0 (suc (highest (x .corner .group))) }
+
+-- The struct that holds it, for the ceilings by which nodes have their numbers.
+unfoldable pub packAround : List ℕ → Node → Around
+packAround ceilings x = record {
+  mode = x .mode;
+  region = pack (regionAround x);
+  first = nodeNumber ceilings (nodeOf (x .mode) (regionAround x) 0);
+  index = x .corner .index;
+}

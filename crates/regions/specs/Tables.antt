@@ -1,39 +1,44 @@
--- The tables of the corners of a cell as the code holds them: eight entries of a byte to a row, the first one in the lowest byte.
+-- What stands in the code's tables of the corners of a cell. A table is kept in rows: eight entries of a byte to a row, the first one in the lowest
+-- byte.
 -- Assumes nothing.
+use mathlib.Core.Path.{_≡_}
+use mathlib.Core.Bool.{cond}
 use mathlib.Core.List.{List, [], _∷_}
-use Prim.Native.Nat.{ℕ}
+use Prim.Native.Nat.{ℕ, suc, _+_, _-_, _*_, _/_, _%_, _^_, _<_, min}
+use lib.Dec.{ltb}
+use lib.ListN.{getD, take}
+use Rattle.semantics.specs.Corner.{Corner, cornerNumber, cornerAt}
+use Rattle.regions.specs.Held.{mostTimers}
 
--- The number of a region's first corner.
-abbrev pub firstRows : List ℕ
-firstRows =
-    0x0000_0001_0000_0000
-    ∷ 0x0000_0000_0000_0000
-    ∷ 0x0007_0503_0000_0100
-    ∷ 0x0000_0000_0000_0A00
-    ∷ 0x0019_1403_0000_1200
-    ∷ 0x0000_0000_0000_1C00
-    ∷ 0x0039_1F07_0016_0105
-    ∷ 0x0047_0000_433C_240F
-    ∷ 0x3F21_270C_0000_0900
-    ∷ 0x0000_3500_0000_2A00
-    ∷ 0x002D_0000_0000_0000
-    ∷ 0x0000_0000_0000_3100
-    ∷ []
+-- No cell has more corners: those of three timers.
+abbrev pub mostCellCorners : ℕ
+mostCellCorners = 75
 
--- The corner with a number.
-abbrev pub cornerRows : List ℕ
-cornerRows =
-    0x0000_0000_0050_1000
-    ∷ 0x1854_1450_1044_0400
-    ∷ 0x0000_00A4_6424_9858
-    ∷ 0x1141_0150_1045_0500
-    ∷ 0x2192_5212_8646_0651
-    ∷ 0x4909_5414_4404_A161
-    ∷ 0x15A4_6424_9858_1889
-    ∷ 0x16A5_6525_9A5A_1A55
-    ∷ 0x9B5B_1BA6_6626_9656
-    ∷ 0xB676_36E7_A767_27DB
-    ∷ 0x1EA9_6929_9959_19F6
-    ∷ 0x39ED_AD6D_2DDE_9E5E
-    ∷ 0x0000_0000_00F9_B979
-    ∷ []
+-- An entry of a row.
+abbrev pub entryOf : ℕ → ℕ → ℕ
+entryOf row column = row / 2 ^ (8 * column) % 256
+
+-- r is the row with this number of the table whose entry at each place is f of the place.
+pub record IsRow (f : ℕ → ℕ) (row r : ℕ) : Type 0 where
+  pub entry : (column : ℕ) → column < 8 → entryOf r column ≡ f (8 * row + column)
+
+-- The places of the first corners: sixteen for one timer, sixteen for two, and for three sixteen for each group of timer 2. Among the sixteen the
+-- groups of timers 0 and 1 are digits of base 4.
+abbrev pub timersAt : ℕ → ℕ
+timersAt place = min mostTimers (suc (place / 16))
+
+abbrev pub groupsAt : ℕ → List ℕ
+groupsAt place = take (timersAt place) (place / 4 % 4 ∷ place % 4 ∷ (place / 16 - 2) ∷ [])
+
+-- The number of the first corner of the region with these groups; how many corners there are, if there is no such region.
+abbrev pub firstAt : ℕ → ℕ
+firstAt place = cornerNumber (timersAt place) (record { group = groupsAt place; index = 0 })
+
+-- A corner in a byte: its index and the groups of timers 0, 1 and 2, as digits of base 4.
+abbrev pub byteOf : Corner → ℕ
+byteOf c = 64 * c .index + 16 * getD (c .group) 0 0 + 4 * getD (c .group) 1 0 + getD (c .group) 2 0
+
+-- The places of the corners: one row for one timer, two for two, and the others for three.
+abbrev pub cornerByte : ℕ → ℕ
+cornerByte place =
+    cond (ltb place 8) (byteOf (cornerAt 1 place)) (cond (ltb place 24) (byteOf (cornerAt 2 (place - 8))) (byteOf (cornerAt 3 (place - 24))))

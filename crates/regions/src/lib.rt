@@ -1,12 +1,12 @@
 // Layer 2: priced regions of one to three timers, by value, and the corners of a cell by their numbers.
 ghost use mathlib.Core.Path.{_≡_};
 ghost use mathlib.Core.Bool.{true, false};
-ghost use Prim.Native.Nat.{_<_, _≤_, max};
+ghost use Prim.Native.Nat.{_<_, _≤_};
 ghost use lib.ListN.{take};
-ghost use Rattle.semantics.specs.Region.{noZero, alone, start, leave, arrive, delay, linger, reset, resetAll, charge, meets, within};
-ghost use Rattle.semantics.specs.Corner.{cornerCount, cornerOf, cornerNumber, cornerAt};
+ghost use Rattle.semantics.specs.Region.{top, noZero, alone, start, leave, arrive, delay, linger, reset, resetAll, charge, meets, within};
+ghost use Rattle.semantics.specs.Corner.{cornerCount, cornerOf, cornerNumber};
 ghost use Rattle.reader.specs.Meaning.{namedTimers, conditionOf};
-ghost use Rattle.regions.specs.Held.{mostTimers, pack, view, Valid, PriceRoom, WholeRoom, packCorner};
+ghost use Rattle.regions.specs.Held.{mostTimers, mostCorners, pad, pack, view, Valid, PriceRoom, WholeRoom};
 
 mod arrays;
 mod compare;
@@ -21,13 +21,6 @@ pub struct Region {
     pub whole: [u8; Region::MOST_TIMERS],
     pub group: [u8; Region::MOST_TIMERS],
     pub prices: [u32; Region::MOST_CORNERS],
-}
-
-// A corner of a cell: the groups of its region, 0 past the last timer, the index of its price, and the number of the highest group.
-pub struct CornerAt {
-    pub group: [u8; Region::MOST_TIMERS],
-    pub index: usize,
-    pub top: u8,
 }
 
 impl Region {
@@ -107,7 +100,7 @@ impl Region {
         ensures { λ r. ⌜ r ≡ pack (charge price (view self)) ⌝ }
     {
         let old = self.prices;
-        let prices = arrays::charged(old, self.top as usize + 1, price);
+        let prices = arrays::charged(old, self.top() + 1, price);
         self.prices = prices;
         self
     }
@@ -139,40 +132,38 @@ impl Region {
         true
     }
 
+    // k, the number of the highest group: the corners have the indices 0 to k.
+    pub fn top(self) -> usize
+        requires { ⌜ Valid self ⌝ }
+        ensures { λ r. ⌜ r ≡ top (view self) ⌝ }
+    {
+        self.top as usize
+    }
+
+    // The prices of the corners, and 0 behind them.
+    pub fn prices(self) -> [u32; Region::MOST_CORNERS]
+        requires { ⌜ Valid self ⌝ }
+        ensures { λ r. ⌜ r ≡ pad mostCorners (view self .prices) ⌝ }
+    {
+        self.prices
+    }
+
     // "The corners of a cell number 3, 13 or 75 for one, two or three timers."
     pub fn corners(timers: usize) -> usize
         requires { ⌜ timers ≤ mostTimers ⌝ }
         ensures { λ r. ⌜ r ≡ cornerCount timers 1 ⌝ }
     {
-        wide(tables::CORNERS[timers])
+        tables::corner_count(timers) as usize
     }
 
     // The number, among the corners of the cell, of the corner whose price has the index.
-    pub fn corner(self, index: usize) -> usize
+    fn corner(self, index: usize) -> usize
         requires { ⌜ Valid self × (index ≤ self .top) ⌝ }
         ensures { λ r. ⌜ r ≡ cornerNumber (self .timers) (cornerOf (view self) index) ⌝ }
     {
         let group = self.group;
-        let at = wide(16 * (self.timers - 1 + group[2]) + 4 * group[0] + group[1]);
-        let first = tables::entry(tables::first_row(at / 8), at % 8);
-        wide(first) + index
-    }
-
-    // The corner with a number, among the corners of a cell.
-    pub fn corner_at(timers: usize, number: usize) -> CornerAt
-        requires { ⌜ (timers ≤ mostTimers) × (number < cornerCount timers 1) ⌝ }
-        ensures { λ r. ⌜ r ≡ packCorner (cornerAt timers number) ⌝ }
-    {
-        let row = wide(tables::ROW[timers]) + number / 8;
-        let code = tables::entry(tables::corner_row(row), number % 8);
-        let a = code / 16 % 4;
-        let b = code / 4 % 4;
-        let c = code % 4;
-        CornerAt {
-            group: [a, b, c],
-            index: wide(code / 64),
-            top: greatest(a, greatest(b, c)),
-        }
+        let place = 16 * (self.timers - 1 + group[2]) + 4 * group[0] + group[1];
+        tables::first_corner(place as usize) as usize + index
     }
 
     // Whether r0 is empty.
@@ -259,16 +250,4 @@ impl Region {
         self.group[timer] = 0;
         self
     }
-}
-
-fn wide(x: u8) -> usize
-    ensures { λ r. ⌜ (r ≡ x) × (r < 256) ⌝ }
-{
-    x as usize
-}
-
-fn greatest(a: u8, b: u8) -> u8
-    ensures { λ r. ⌜ r ≡ max a b ⌝ }
-{
-    if a < b { b } else { a }
 }

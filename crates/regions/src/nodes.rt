@@ -1,15 +1,18 @@
-// The nodes of a search by their numbers: cells, nodes, and how many there are.
+// The nodes of a search by their numbers: cells, nodes, and how many there are. The arithmetic is in 32 bits.
 ghost use mathlib.Core.Path.{_≡_};
+ghost use mathlib.Core.Bool.{cond};
 ghost use Prim.Native.Nat.{_+_, _*_, _%_, _<_, _≤_};
+ghost use lib.Dec.{leb};
 ghost use lib.ListN.{length, take};
 ghost use Rattle.semantics.specs.Corner.{cornerCount};
 ghost use Rattle.semantics.specs.Node.{cellCount, cellNumber, cellAt, nodeOf, nodeCount, nodeNumber, nodeAt};
 ghost use Rattle.reader.specs.Meaning.{automaton};
 ghost use Rattle.reader.specs.Held.{IsTable, fields};
 ghost use Rattle.regions.specs.Held.{mostTimers, view, Valid};
-ghost use Rattle.regions.specs.Nodes.{mostModes, mostCeiling, mostCells, mostCellNumber, CeilingsFew, IsFactor, Padded, bounded, packNode};
-use crate::CornerAt;
+ghost use Rattle.regions.specs.Nodes.{mostModes, mostCeiling, mostCells, mostCellNumber, mostNodes, CeilingsFew, IsFactor, Padded, bounded, packNode, packAround};
 use crate::Region;
+use crate::tables;
+use crate::tables::CornerAt;
 use reader::Table;
 
 // "E may be at most 65,536."
@@ -21,42 +24,55 @@ pub enum Nodes {
     TooMany,
 }
 
-// A node: a mode, the whole parts of the timers, which are the cell, and a corner of the cell.
-pub struct NodeAt {
+// A node with the region of which it is a corner: its mode, the region with its corners' indices as prices, the number of the node that is the
+// region's corner 0, and the node's own index. The nodes of a region's corners have numbers in a row.
+pub struct Around {
     pub mode: usize,
-    pub whole: [u8; Region::MOST_TIMERS],
-    pub corner: CornerAt,
+    pub region: Region,
+    pub first: usize,
+    pub index: usize,
+}
+
+// A node: a mode, the whole parts of the timers, which are the cell, and a corner of the cell.
+struct NodeAt {
+    mode: usize,
+    whole: [u8; Region::MOST_TIMERS],
+    corner: CornerAt,
 }
 
 // How many whole parts a timer may have.
-fn factor(ceiling: u8) -> usize
+fn factor(ceiling: u8) -> u32
     requires { ⌜ ceiling ≤ mostCeiling ⌝ }
     ensures { λ r. ⌜ IsFactor ceiling r ⌝ }
 {
-    ceiling as usize + 1
+    ceiling as u32 + 1
 }
 
 // How many cells there are. Behind the last ceiling there is 0, so that the factors there are 1.
+fn cells(ceilings: [u8; Region::MOST_TIMERS]) -> u32
+    requires { ⌜ CeilingsFew ceilings ⌝ }
+    ensures { λ r. ⌜ (r ≡ cellCount ceilings) × (1 ≤ r) × (r ≤ mostCells) ⌝ }
+{
+    factor(ceilings[2]) * factor(ceilings[1]) * factor(ceilings[0])
+}
+
 pub fn cell_count(ceilings: [u8; Region::MOST_TIMERS]) -> usize
     requires { ⌜ CeilingsFew ceilings ⌝ }
     ensures { λ r. ⌜ (r ≡ cellCount ceilings) × (1 ≤ r) × (r ≤ mostCells) ⌝ }
 {
-    let a = factor(ceilings[0]);
-    let b = factor(ceilings[1]);
-    let c = factor(ceilings[2]);
-    c * b * a
+    cells(ceilings) as usize
 }
 
 // One digit more of a number in mixed radix. Two digits that are bytes, with factors up to 16, give at most 4335.
-fn with_digit(high: usize, factor: usize, digit: u8) -> usize
+fn with_digit(high: u32, factor: u32, digit: u8) -> u32
     requires { ⌜ (high ≤ 4335) × (factor ≤ 16) ⌝ }
     ensures { λ r. ⌜ (r ≡ high * factor + digit) × (r ≤ 16 * high + 255) ⌝ }
 {
-    high * factor + digit as usize
+    high * factor + digit as u32
 }
 
 // The number of a cell.
-fn cell_number(ceilings: [u8; Region::MOST_TIMERS], whole: [u8; Region::MOST_TIMERS]) -> usize
+fn cell_number(ceilings: [u8; Region::MOST_TIMERS], whole: [u8; Region::MOST_TIMERS]) -> u32
     requires { ⌜ CeilingsFew ceilings ⌝ }
     ensures { λ r. ⌜ (r ≡ cellNumber ceilings whole) × (r ≤ mostCellNumber) ⌝ }
 {
@@ -69,7 +85,7 @@ fn cell_number(ceilings: [u8; Region::MOST_TIMERS], whole: [u8; Region::MOST_TIM
 }
 
 // The lowest digit of a number in mixed radix.
-fn digit(number: usize, factor: usize) -> u8
+fn digit(number: u32, factor: u32) -> u8
     requires { ⌜ (1 ≤ factor) × (factor ≤ 16) ⌝ }
     ensures { λ r. ⌜ r ≡ number % factor ⌝ }
 {
@@ -77,7 +93,7 @@ fn digit(number: usize, factor: usize) -> u8
 }
 
 // The cell with a number.
-fn cell_at(ceilings: [u8; Region::MOST_TIMERS], number: usize) -> [u8; Region::MOST_TIMERS]
+fn cell_at(ceilings: [u8; Region::MOST_TIMERS], number: u32) -> [u8; Region::MOST_TIMERS]
     requires { ⌜ CeilingsFew ceilings ⌝ }
     ensures { λ r. ⌜ r ≡ cellAt ceilings number ⌝ }
 {
@@ -100,24 +116,57 @@ pub fn node_of(
     ensures { λ r. ⌜ r ≡ nodeNumber (take (region .timers) ceilings) (nodeOf mode (view region) index) ⌝ }
 {
     let whole = region.whole;
-    let cell = mode * cell_count(ceilings) + cell_number(ceilings, whole);
-    cell * Region::corners(region.timers as usize) + region.corner(index)
+    let cell = mode as u32 * cells(ceilings) + cell_number(ceilings, whole);
+    let first = cell * tables::corner_count(region.timers as usize);
+    first as usize + region.corner(index)
 }
 
 // The node with a number.
-pub fn node_at(timers: usize, ceilings: [u8; Region::MOST_TIMERS], number: usize) -> NodeAt
-    requires { ⌜ (timers ≤ mostTimers) × CeilingsFew ceilings × Padded timers ceilings ⌝ }
+fn node_at(timers: usize, ceilings: [u8; Region::MOST_TIMERS], number: u32) -> NodeAt
+    requires { ⌜ (1 ≤ timers) × (timers ≤ mostTimers) × CeilingsFew ceilings × Padded timers ceilings ⌝ }
     ensures { λ r. ⌜ r ≡ packNode (nodeAt (take timers ceilings) number) ⌝ }
 {
-    let corners = Region::corners(timers);
-    let cells = cell_count(ceilings);
+    let corners = tables::corner_count(timers);
+    let cells = cells(ceilings);
     let cell = number / corners;
     let whole = cell_at(ceilings, cell % cells);
-    let corner = Region::corner_at(timers, number % corners);
+    let corner = tables::corner_at(timers, (number % corners) as usize);
     NodeAt {
-        mode: cell / cells,
+        mode: (cell / cells) as usize,
         whole,
         corner,
+    }
+}
+
+// i, where the region has a corner with that index.
+fn index_to(top: u8, i: u32) -> u32
+    ensures { λ r. ⌜ r ≡ cond (leb i top) i 0 ⌝ }
+{
+    if i <= top as u32 { i } else { 0 }
+}
+
+// The region of which the node with a number is a corner.
+pub fn region_at(timers: usize, ceilings: [u8; Region::MOST_TIMERS], number: usize) -> Around
+    requires { ⌜ (1 ≤ timers) × (timers ≤ mostTimers) × CeilingsFew ceilings × Padded timers ceilings × (number < mostNodes) ⌝ }
+    ensures { λ r. ⌜ r ≡ packAround (take timers ceilings) (nodeAt (take timers ceilings) number) ⌝ }
+{
+    let node = node_at(timers, ceilings, number as u32);
+    let corner = node.corner;
+    let top = corner.top;
+    let whole = node.whole;
+    let group = corner.group;
+    let region = Region {
+        timers: timers as u8,
+        top,
+        whole,
+        group,
+        prices: [0, index_to(top, 1), index_to(top, 2), index_to(top, 3)],
+    };
+    Around {
+        mode: node.mode,
+        region,
+        first: number - corner.index,
+        index: corner.index,
     }
 }
 
@@ -126,12 +175,12 @@ pub fn node_count(table: Table) -> Nodes
     requires { ⌜ IsTable table ⌝ }
     ensures { λ r. ⌜ r ≡ bounded (nodeCount (automaton (fields table))) ⌝ }
 {
-    let modes = table.modes;
+    let modes = table.modes as u32;
     let timers = table.timers;
     let ceilings = table.ceilings;
-    let count = modes * cell_count(ceilings) * Region::corners(timers);
-    if count <= MOST_NODES {
-        Nodes::Count(count)
+    let count = modes * cells(ceilings) * tables::corner_count(timers);
+    if count as usize <= MOST_NODES {
+        Nodes::Count(count as usize)
     } else {
         Nodes::TooMany
     }

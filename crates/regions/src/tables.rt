@@ -1,50 +1,103 @@
 // The constant tables of the corners of a cell. Two of them give a row of eight entries by a `match`, which the compiler keeps in read-only
 // memory; a constant array it writes anew onto the stack at each use.
 ghost use mathlib.Core.Path.{_≡_};
-ghost use Prim.Native.Nat.{_*_, _/_, _%_, _^_, _<_};
-ghost use lib.ListN.{getD};
-ghost use Rattle.regions.specs.Tables.{firstRows, cornerRows};
+ghost use Prim.Native.Nat.{_<_, _≤_, max};
+ghost use Rattle.semantics.specs.Corner.{cornerCount, cornerAt};
+ghost use Rattle.regions.specs.Held.{mostTimers, packCorner};
+ghost use Rattle.regions.specs.Tables.{mostCellCorners, entryOf, IsRow, firstAt, cornerByte};
+use crate::Region;
+
+// A corner of a cell: the groups of its region, 0 past the last timer, the index of its price, and the number of the highest group.
+pub struct CornerAt {
+    pub group: [u8; Region::MOST_TIMERS],
+    pub index: usize,
+    pub top: u8,
+}
 
 // How many corners a cell has, by the number of timers.
-pub const CORNERS: [u8; 4] = [1, 3, 13, 75];
+const CORNERS: [u8; 4] = [1, 3, 13, 75];
+
+// Where the corners begin in their table, by the number of timers.
+const FIRST_PLACES: [u8; 4] = [0, 0, 8, 24];
+
+// "The corners of a cell number 3, 13 or 75 for one, two or three timers."
+pub fn corner_count(timers: usize) -> u32
+    requires { ⌜ timers ≤ mostTimers ⌝ }
+    ensures { λ r. ⌜ (r ≡ cornerCount timers 1) × (1 ≤ r) × (r ≤ mostCellCorners) ⌝ }
+{
+    wide(CORNERS[timers])
+}
+
+fn wide(byte: u8) -> u32
+    ensures { λ r. ⌜ r ≡ byte ⌝ }
+{
+    byte as u32
+}
+
+// The number of a region's first corner, by the place of its groups.
+pub fn first_corner(place: usize) -> u8
+    requires { ⌜ place < 96 ⌝ }
+    ensures { λ r. ⌜ r ≡ firstAt place ⌝ }
+{
+    entry(first_row(place / 8), place % 8)
+}
+
+// The corner with a number.
+pub fn corner_at(timers: usize, number: usize) -> CornerAt
+    requires { ⌜ (1 ≤ timers) × (timers ≤ mostTimers) × (number < cornerCount timers 1) ⌝ }
+    ensures { λ r. ⌜ r ≡ packCorner (cornerAt timers number) ⌝ }
+{
+    let place = FIRST_PLACES[timers] as usize + number;
+    let byte = entry(corner_row(place / 8), place % 8);
+    let a = byte / 16 % 4;
+    let b = byte / 4 % 4;
+    let c = byte % 4;
+    CornerAt {
+        group: [a, b, c],
+        index: (byte / 64) as usize,
+        top: greatest(a, greatest(b, c)),
+    }
+}
+
+fn greatest(a: u8, b: u8) -> u8
+    ensures { λ r. ⌜ r ≡ max a b ⌝ }
+{
+    if a < b { b } else { a }
+}
 
 // An entry of a row; the first one stands in the lowest byte.
-pub fn entry(row: u64, column: usize) -> u8
+fn entry(row: u64, column: usize) -> u8
     requires { ⌜ column < 8 ⌝ }
-    ensures { λ r. ⌜ r ≡ row / 2 ^ (8 * column) % 256 ⌝ }
+    ensures { λ r. ⌜ r ≡ entryOf row column ⌝ }
 {
     ((row >> (8 * column)) % 256) as u8
 }
 
-// The number of a region's first corner: sixteen entries for one timer, sixteen for two, and for three sixteen for each group of timer 2. Among
-// the sixteen the groups of timers 0 and 1 are digits of base 4. 0 where there is no region.
-pub fn first_row(row: usize) -> u64
+// The numbers of the regions' first corners.
+fn first_row(row: usize) -> u64
     requires { ⌜ row < 12 ⌝ }
-    ensures { λ r. ⌜ r ≡ getD firstRows row 0 ⌝ }
+    ensures { λ r. ⌜ IsRow firstAt row r ⌝ }
 {
     match row {
-        0 => 0x0000_0001_0000_0000,
-        1 => 0x0000_0000_0000_0000,
-        2 => 0x0007_0503_0000_0100,
-        3 => 0x0000_0000_0000_0A00,
-        4 => 0x0019_1403_0000_1200,
-        5 => 0x0000_0000_0000_1C00,
-        6 => 0x0039_1F07_0016_0105,
-        7 => 0x0047_0000_433C_240F,
-        8 => 0x3F21_270C_0000_0900,
-        9 => 0x0000_3500_0000_2A00,
-        10 => 0x002D_0000_0000_0000,
-        _ => 0x0000_0000_0000_3100,
+        0 => 0x0101_0101_0000_0000,
+        1 => 0x0303_0303_0303_0303,
+        2 => 0x0D07_0503_0D0D_0100,
+        3 => 0x0D0D_0D0D_0D0D_0A0D,
+        4 => 0x4B19_1403_4B4B_1200,
+        5 => 0x4B4B_4B4B_4B4B_1C4B,
+        6 => 0x4B39_1F07_4B16_0105,
+        7 => 0x4B47_4B4B_433C_240F,
+        8 => 0x3F21_270C_4B4B_094B,
+        9 => 0x4B4B_354B_4B4B_2A4B,
+        10 => 0x4B2D_4B4B_4B4B_4B4B,
+        _ => 0x4B4B_4B4B_4B4B_314B,
     }
 }
 
-// The first row of the corners, by the number of timers.
-pub const ROW: [u8; 4] = [0, 0, 1, 3];
-
-// The corner with a number: its index and the groups of timers 0, 1 and 2, as digits of base 4.
-pub fn corner_row(row: usize) -> u64
+// The corners by their numbers.
+fn corner_row(row: usize) -> u64
     requires { ⌜ row < 13 ⌝ }
-    ensures { λ r. ⌜ r ≡ getD cornerRows row 0 ⌝ }
+    ensures { λ r. ⌜ IsRow cornerByte row r ⌝ }
 {
     match row {
         0 => 0x0000_0000_0050_1000,

@@ -1,6 +1,7 @@
 -- `regions::Region::corner` meets its contract.
 -- Assumes nothing.
-use Prim.Native.Nat.{_≤_}
+use Prim.Native.Nat.{ℕ, _+_, _≤_}
+use mathlib.Core.Path.{ap, _∙_}
 use native.Mathlib.Omega.{arith}
 use borrow.Author.Needs.{needs}
 use lib.ListN.{getD}
@@ -20,77 +21,70 @@ few c =
     let at = group-few s (view s) (holds s (c .pre .0)) in
     (c .pre .0 .few, at 0, at 1, at 2)
 
-sub-wide : tie.Need-sub-wide
-sub-wide c =
+sub-place : tie.Need-sub-place
+sub-place c =
     let start = c .before .before in
     let s = start .args .self in
     omega (arith, timers-is s (view s) (holds s (start .pre .0)), start .pre .0 .wellFormed .some)
 
-array-read-wide : tie.Need-array-read-wide
-array-read-wide c = search needs
+array-read-place : tie.Need-array-read-place
+array-read-place c = search needs
 
-add-wide : tie.Need-add-wide
-add-wide c = omega (arith, few (c .before .before))
+add-place : tie.Need-add-place
+add-place c = omega (arith, few (c .before .before))
 
-mul-wide : tie.Need-mul-wide
-mul-wide c = omega (arith, few (c .before .before))
+mul-place : tie.Need-mul-place
+mul-place c = omega (arith, few (c .before .before))
 
-array-read-wide-2 : tie.Need-array-read-wide-2
-array-read-wide-2 c = search needs
+array-read-place-2 : tie.Need-array-read-place-2
+array-read-place-2 c = search needs
 
-mul-wide-2 : tie.Need-mul-wide-2
-mul-wide-2 c = omega (arith, few (c .before .before))
+mul-place-2 : tie.Need-mul-place-2
+mul-place-2 c = omega (arith, few (c .before .before))
 
-add-wide-2 : tie.Need-add-wide-2
-add-wide-2 c = omega (arith, few (c .before .before))
+add-place-2 : tie.Need-add-place-2
+add-place-2 c = omega (arith, few (c .before .before))
 
-array-read-wide-3 : tie.Need-array-read-wide-3
-array-read-wide-3 c = search needs
+array-read-place-3 : tie.Need-array-read-place-3
+array-read-place-3 c = search needs
 
-add-wide-3 : tie.Need-add-wide-3
-add-wide-3 c = omega (arith, few (c .before .before))
+add-place-3 : tie.Need-add-place-3
+add-place-3 c = omega (arith, few (c .before .before))
 
-wide-requires : tie.Need-wide-requires
-wide-requires c κs = search needs
+cast-first-corner : tie.Need-cast-first-corner
+cast-first-corner c = omega (arith, few (c .before .before))
 
-first-row-requires : tie.Need-first-row-requires
-first-row-requires c κs = omega (arith, few (c .before .before .before), c .wide .ensures .0)
+first-corner-requires : tie.Need-first-corner-requires
+first-corner-requires c κs = omega (arith, few (c .before .before))
 
-entry-requires : tie.Need-entry-requires
-entry-requires c κs = search needs
-
-wide-requires-2 : tie.Need-wide-requires-2
-wide-requires-2 c κs = search needs
+cast-result : tie.Need-cast-result
+cast-result c = search needs
 
 add-result : tie.Need-add-result
 add-result c = search needs
 
 returns : tie.Need-returns
 returns c =
-    let e = c .before in
-    let row = e .before in
-    let at = row .before in
-    let start = at .before .before .before in
+    let start = c .before .before .before in
     let s = start .args .self in
-    rw (c .wide2 .ensures .0, e .entry .ensures, row .first-row .ensures, at .wide .ensures .0)
-    (number-is s (view s) (holds s (start .pre .0)) (start .args .index) (start .pre .1))
+    ap (λ (k : ℕ). k + start .args .index) (c .first-corner .ensures)
+    ∙ number-is s (view s) (holds s (start .pre .0)) (start .args .index) (start .pre .1)
 
 pub corner-spec : {M : Type 1} → statement M
 corner-spec =
     tie.close
     (tie.spec
-    sub-wide
-    array-read-wide
-    add-wide
-    mul-wide
-    array-read-wide-2
-    mul-wide-2
-    add-wide-2
-    array-read-wide-3
-    add-wide-3
-    wide-requires
-    first-row-requires
-    entry-requires
-    wide-requires-2
+    sub-place
+    array-read-place
+    add-place
+    mul-place
+    array-read-place-2
+    mul-place-2
+    add-place-2
+    array-read-place-3
+    add-place-3
+    cast-first-corner
+    first-corner-requires
+    cast-result
     add-result
     returns)

@@ -101,7 +101,7 @@ impl Region {
         ensures { λ r. ⌜ r ≡ pack (charge price (view self)) ⌝ }
     {
         let old = self.prices;
-        let prices = arrays::charged(old, self.top as usize + 1, price);
+        let prices = arrays::charged(old, self.top() + 1, price);
         self.prices = prices;
         self
     }

@@ -53,10 +53,7 @@ fn cells(ceilings: [u8; Region::MOST_TIMERS]) -> u32
     requires { ⌜ CeilingsFew ceilings ⌝ }
     ensures { λ r. ⌜ (r ≡ cellCount ceilings) × (1 ≤ r) × (r ≤ mostCells) ⌝ }
 {
-    let a = factor(ceilings[0]);
-    let b = factor(ceilings[1]);
-    let c = factor(ceilings[2]);
-    c * b * a
+    factor(ceilings[2]) * factor(ceilings[1]) * factor(ceilings[0])
 }
 
 pub fn cell_count(ceilings: [u8; Region::MOST_TIMERS]) -> usize

@@ -26,7 +26,13 @@ pub fn corner_count(timers: usize) -> u32
     requires { ⌜ timers ≤ mostTimers ⌝ }
     ensures { λ r. ⌜ (r ≡ cornerCount timers 1) × (1 ≤ r) × (r ≤ mostCellCorners) ⌝ }
 {
-    CORNERS[timers] as u32
+    wide(CORNERS[timers])
+}
+
+fn wide(byte: u8) -> u32
+    ensures { λ r. ⌜ r ≡ byte ⌝ }
+{
+    byte as u32
 }
 
 // The number of a region's first corner, by the place of its groups.

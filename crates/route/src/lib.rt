@@ -7,9 +7,9 @@ ghost use Rattle.search.specs.Regions.{automatonOf};
 ghost use Rattle.route.specs.Plan.{outcome, plannedTable, planned};
 ghost use Rattle.route.specs.Promise.{KeepsDemand};
 ghost use Rattle.route.specs.Walk.{Found, ReadOff, WalkReady, Walked, ChooseReady, Choice, RetraceReady, Retraces};
+use reader::MOST_TIMERS;
 use reader::Table;
 use reader::Verdict;
-use regions::Region;
 use search::INFINITY;
 use search::Searched;
 use search::near;
@@ -116,7 +116,7 @@ fn walk<'a>(
     start: Place,
     goal: usize,
     moves: usize,
-    ceilings: [u8; Region::MOST_TIMERS],
+    ceilings: [u8; MOST_TIMERS],
     rates: &'a [u16],
     invariants: &'a [u8],
     sources: &'a [u8],
@@ -208,7 +208,7 @@ fn choose<'a>(
     first: u8,
     steps: u32,
     moves: usize,
-    ceilings: [u8; Region::MOST_TIMERS],
+    ceilings: [u8; MOST_TIMERS],
     rates: &'a [u16],
     invariants: &'a [u8],
     sources: &'a [u8],
@@ -258,7 +258,7 @@ fn retrace<'a>(
     route: &[u8],
     depth: usize,
     moves: usize,
-    ceilings: [u8; Region::MOST_TIMERS],
+    ceilings: [u8; MOST_TIMERS],
     rates: &'a [u16],
     invariants: &'a [u8],
     sources: &'a [u8],

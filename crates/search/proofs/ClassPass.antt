@@ -19,7 +19,7 @@ use Rattle.semantics.specs.Paths.Ahead.{mostClasses, boundOf, Done, Ahead, Fall
 use Rattle.semantics.specs.Paths.Passes.{ahead-pass, ahead-visited}
 use Rattle.reader.specs.declared.Table.{Table}
 use Rattle.reader.specs.Theorems.Access.{timer-count, mode-count}
-use Rattle.search.specs.declared.spread.Around.{Around}
+use Rattle.regions.specs.declared.nodes.Around.{Around}
 use Rattle.search.specs.Classes.{NextDue}
 use Rattle.search.specs.Regions.{automatonOf, graphOf, startOf, Searching, share, RegionAt, AroundAt, RegionAround, Spread, classEnd, Handed}
 use Rattle.search.specs.Spread.{ClassAt, ClassDone}
@@ -138,6 +138,7 @@ module _ {t : Table} {l nodes block class low mode timers : ℕ} {ceilings : Lis
       timers-are = h .timers-are;
       ceilings-are = h .handed .searching .ceilings-are;
       there = omega (arith, class-below);
+      few = omega (arith, h .handed .searching .counted, h .handed .searching .few);
     }
 
     in-mode : modeOfNode (automatonOf t) node ≡ mode
@@ -162,35 +163,35 @@ module _ {t : Table} {l nodes block class low mode timers : ℕ} {ceilings : Lis
 
     -- Its region.
     module _ (r : Around) (around : RegionAround t node r) where
-      pub region-here : RegionAt t mode (r .from) (r .region)
-      region-here = subst (λ (m : ℕ). RegionAt t m (r .from) (r .region)) in-mode (around .at-region)
+      pub region-here : RegionAt t mode (r .first) (r .region)
+      region-here = subst (λ (m : ℕ). RegionAt t m (r .first) (r .region)) in-mode (around .at-region)
 
       -- All its corners are in the class.
-      corner-class : (j : ℕ) → j ≤ r .region .top → (r .from + j) / block ≡ class
+      corner-class : (j : ℕ) → j ≤ r .region .top → (r .first + j) / block ≡ class
       corner-class j b =
           let is = h .handed .searching .is-table in
           let k = h .handed .classes in
-          let own : r .from + (node - r .from) ≡ node = omega (arith, around .above) in
-          let first = region-class is k region-here (node - r .from) (omega (arith, around .above, around .below)) in
+          let own : r .first + (node - r .first) ≡ node = omega (arith, around .above) in
+          let first = region-class is k region-here (node - r .first) (omega (arith, around .above, around .below)) in
           region-class is k region-here j b ∙ sym first ∙ ap (λ (v : ℕ). v / block) own ∙ in-class
 
-      class-end : classEnd block (r .from) ≡ class * block + block
+      class-end : classEnd block (r .first) ≡ class * block + block
       class-end =
-          let zero : r .from + 0 ≡ r .from = omega arith in
+          let zero : r .first + 0 ≡ r .first = omega arith in
           ap (λ (c : ℕ). c * block + block) (sym (ap (λ (v : ℕ). v / block) zero) ∙ corner-class 0 (omega arith))
 
-      pub top-below : r .from + r .region .top < class * block + block
+      pub top-below : r .first + r .region .top < class * block + block
       top-below =
           let some = block-some (h .handed .searching .is-table) (h .handed .classes) in
           let q = corner-class (r .region .top) (omega arith) in
-          let below : (r .from + r .region .top) / block < suc class = omega arith in
-          omega (arith, div-lt-iff-lt-mul {k = block} {x = r .from + r .region .top} {y = suc class} some .0 below, suc-mul class block)
+          let below : (r .first + r .region .top) / block < suc class = omega arith in
+          omega (arith, div-lt-iff-lt-mul {k = block} {x = r .first + r .region .top} {y = suc class} some .0 below, suc-mul class block)
 
       -- Its edges were followed: the nodes after its last corner are to come.
       pub class-region :
           {ws′ pend′ ws″ pend″ : List ℕ} → ClassTo t l block class low node ws pend ws′ pend′
-          → Spread t l block low (r .from + r .region .top) (classEnd block (r .from)) (r .from) (r .region) (λ k. Unit {0}) ws′ pend′ ws″ pend″
-          → ClassTo t l block class low (r .from + r .region .top + 1) ws pend ws″ pend″
+          → Spread t l block low (r .first + r .region .top) (classEnd block (r .first)) (r .first) (r .region) (λ k. Unit {0}) ws′ pend′ ws″ pend″
+          → ClassTo t l block class low (r .first + r .region .top + 1) ws pend ws″ pend″
       class-region {ws′} {pend′} {ws″} {pend″} s done = record {
         changed = s .changed || done .pass .changed;
         update = update-then (s .changed) (done .pass .changed) refl (s .update) (done .pass .update);
@@ -198,7 +199,7 @@ module _ {t : Table} {l nodes block class low mode timers : ℕ} {ceilings : Lis
         still = still (s .changed) refl;
         falls = λ k. omega (arith, s .falls k, done .pass .falls k);
         ahead =
-            ahead-visited (r .from + r .region .top + 1) (ahead-pass most (s .ahead) pass) (omega (arith, around .below))
+            ahead-visited (r .first + r .region .top + 1) (ahead-pass most (s .ahead) pass) (omega (arith, around .below))
             (omega (arith, top-below)) visited;
       }
         where
@@ -215,13 +216,13 @@ module _ {t : Table} {l nodes block class low mode timers : ℕ} {ceilings : Lis
               (λ w i j. (omega (arith, i, around .below), omega (arith, j, class-end))) (done .pass)
 
           visited :
-              (v : ℕ) (e : Edge) → node ≤ v → v < r .from + r .region .top + 1 → v < graphOf t l .nodes → Leaves (graphOf t l) v e
+              (v : ℕ) (e : Edge) → node ≤ v → v < r .first + r .region .top + 1 → v < graphOf t l .nodes → Leaves (graphOf t l) v e
               → (Target (graphOf t l) v → ⊥) → low ≤ chargeAt ws″ v → Done (graphOf t l) (startOf t) block ws″ pend″ v e
           visited v e i j there m n c =
-              let own : r .from + (v - r .from) ≡ v = omega (arith, around .above) in
+              let own : r .first + (v - r .first) ≡ v = omega (arith, around .above) in
               subst
               (λ (u : ℕ). Leaves (graphOf t l) u e → low ≤ chargeAt ws″ u → Done (graphOf t l) (startOf t) block ws″ pend″ u e)
               own
-              (λ o q. done .edges (v - r .from) (omega (arith, around .above)) e o tt q)
+              (λ o q. done .edges (v - r .first) (omega (arith, around .above)) e o tt q)
               m
               c

@@ -24,7 +24,7 @@ use Rattle.reader.specs.Held.{fields, IsTable}
 use Rattle.regions.specs.declared.Region.{Region}
 use Rattle.regions.specs.Held.{view, Valid}
 use Rattle.regions.specs.Nodes.{mostNodes}
-use Rattle.search.specs.declared.spread.Around.{Around}
+use Rattle.regions.specs.declared.nodes.Around.{Around}
 
 -- The automaton that the table holds, its graph for the goal l, and the node where chains begin.
 abbrev pub automatonOf : Table → Automaton
@@ -76,17 +76,12 @@ pub record AroundAt (t : Table) (timers : ℕ) (ceilings : List ℕ) (node : ℕ
   pub timers-are : timers ≡ t .timers
   pub ceilings-are : ceilings ≡ t .ceilings
   pub there : node < nodeCount (automatonOf t)
+  pub few : nodeCount (automatonOf t) ≤ mostNodes
 
 pub record RegionAround (t : Table) (node : ℕ) (r : Around) : Type 0 where
-  pub at-region : RegionAt t (modeOfNode (automatonOf t) node) (r .from) (r .region)
-  pub above : r .from ≤ node
-  pub below : node ≤ r .from + r .region .top
-
-abbrev pub AroundReady : ℕ → List ℕ → ℕ → Type 0
-AroundReady timers ceilings node = (t : Table) × AroundAt t timers ceilings node
-
-abbrev pub IsAround : ℕ → List ℕ → ℕ → Around → Type 0
-IsAround timers ceilings node r = (t : Table) → AroundAt t timers ceilings node → RegionAround t node r
+  pub at-region : RegionAt t (modeOfNode (automatonOf t) node) (r .first) (r .region)
+  pub above : r .first ≤ node
+  pub below : node ≤ r .first + r .region .top
 
 -- The move e of the table is one from the mode.
 pub record Own (t : Table) (mode e : ℕ) : Type 0 where

@@ -1,6 +1,6 @@
 // The search forwards from the start: classes are taken, and the edges of their nodes followed, until nothing up to the goal's charge is pending.
 ghost use mathlib.Core.Path.{_≡_};
-ghost use Rattle.search.specs.Regions.{AroundReady, IsAround, RegionReady, RegionSpread};
+ghost use Rattle.search.specs.Regions.{RegionReady, RegionSpread};
 ghost use Rattle.search.specs.Spread.{ClassReady, ClassSpread, SpreadReady, SpreadDone};
 use crate::INFINITY;
 use crate::classes;
@@ -9,46 +9,8 @@ use crate::waits;
 use regions::Region;
 use regions::nodes;
 
-// The indices of the corners of a region with the corners 0 to top, as its prices.
-const INDICES: [[u32; Region::MOST_CORNERS]; Region::MOST_CORNERS] = [
-    [0, 0, 0, 0],
-    [0, 1, 0, 0],
-    [0, 1, 2, 0],
-    [0, 1, 2, 3],
-];
-
 // The bound before the goal was reached: above every charge.
 const ANY_CHARGE: u32 = INFINITY - 1;
-
-// A region with its corners' indices as prices, and the node of its corner 0.
-pub struct Around {
-    pub from: usize,
-    pub region: Region,
-}
-
-// The region that a node is a corner of.
-fn region_of(timers: usize, ceilings: [u8; Region::MOST_TIMERS], node: usize) -> Around
-    requires { ⌜ AroundReady timers ceilings node ⌝ }
-    ensures { λ r. ⌜ IsAround timers ceilings node r ⌝ }
-{
-    let at = nodes::node_at(timers, ceilings, node);
-    let corner = at.corner;
-    let top = corner.top;
-    let whole = at.whole;
-    let group = corner.group;
-    let indices = INDICES[top as usize];
-    let region = Region {
-        timers: timers as u8,
-        top,
-        whole,
-        group,
-        prices: indices,
-    };
-    Around {
-        from: node - corner.index,
-        region,
-    }
-}
 
 // All edges from the corners of a region: first those of waiting, which may lower its last corner.
 fn spread_region(
@@ -146,8 +108,8 @@ fn spread_class(
     let end = first + block;
     let mut node = classes::next_due(words, first, end, low, pending[classes::MOST_CLASSES]);
     while node < end {
-        let at = region_of(timers, ceilings, node);
-        let from = at.from;
+        let at = nodes::region_at(timers, ceilings, node);
+        let from = at.first;
         let region = at.region;
         spread_region(
             words,
@@ -168,7 +130,7 @@ fn spread_class(
             resets,
             invariants,
         );
-        let next = from + region.top as usize + 1;
+        let next = from + region.top() + 1;
         node = classes::next_due(words, next, end, low, pending[classes::MOST_CLASSES]);
     }
 }

@@ -1,5 +1,6 @@
 -- `regions::tables::corner_count` meets its contract.
 -- Assumes nothing.
+use mathlib.Core.Path.{_∙_}
 use native.Mathlib.Omega.{arith}
 use borrow.Author.Needs.{needs}
 use Rattle.regions.proofs.Rules.{counts-right}
@@ -7,22 +8,18 @@ use Rattle.regions.specs.Laws.Nodes.{corners-few}
 use Rattle.regions.proofs.tables.corner_count.Statement.{statement}
 use Rattle.regions.proofs.tables.corner_count.Tie as tie
 
-array-read-result : tie.Need-array-read-result
-array-read-result c = search needs
+array-read-wide : tie.Need-array-read-wide
+array-read-wide c = search needs
 
-cast-result : tie.Need-cast-result
-cast-result c = omega (arith, counts-right (c .args .timers) (c .pre), corners-few (c .args .timers) (c .pre))
+wide-requires : tie.Need-wide-requires
+wide-requires c κs = search needs
 
 returns : tie.Need-returns
 returns c =
-    let right = counts-right (c .args .timers) (c .pre) in
-    let few = corners-few (c .args .timers) (c .pre) in
-    (right, omega (arith, right, few), omega (arith, right, few))
+    let n = c .before .args .timers in
+    let is = c .wide .ensures ∙ counts-right n (c .before .pre) in
+    let few = corners-few n (c .before .pre) in
+    (is, omega (arith, is, few), omega (arith, is, few))
 
 pub corner-count-spec : {M : Type 1} → statement M
-corner-count-spec =
-    tie.close
-    (tie.spec
-    array-read-result
-    cast-result
-    returns)
+corner-count-spec = tie.close (tie.spec array-read-wide wide-requires returns)

@@ -1,13 +1,16 @@
 -- `search::spread::spread_class` meets its contract. The loop's invariant: the nodes of the class before `node` were visited. The measure is the
 -- number of nodes left.
 -- Assumes nothing.
-use mathlib.Core.Path.{_≡_, refl}
+use mathlib.Core.Path.{_≡_, refl, _∙_, sym, subst}
 use Prim.Native.Nat.{ℕ, _+_, _*_, _-_, _≤_, _<_}
 use native.Mathlib.Omega.{arith}
 use borrow.Author.Needs.{needs}
 use Rattle.reader.specs.declared.Table.{Table}
+use Rattle.regions.specs.Held.{view}
+use Rattle.regions.specs.Laws.Fields.{holds, top-is}
 use Rattle.search.specs.Regions.{RegionAround}
 use Rattle.search.specs.Spread.{ClassAt}
+use Rattle.search.proofs.AroundNode.{around-ready, around as around-of}
 use Rattle.search.proofs.ClassPass.{ClassTo, bound-read, class-done, class-skip, class-none, class-fits, class-room, handed-now, room-now, around-at, region-here, top-below, class-region}
 use Rattle.search.proofs.spread.spread_class.Statement.{statement}
 use Rattle.search.proofs.spread.spread_class.Tie as tie
@@ -44,29 +47,29 @@ inside c = omega arith
 
 -- Its region.
 around :
-    (c : tie.After-region-of Inv-loop μ-loop) (t : Table) → Class (startAt (c .before)) t
-    → RegionAround t (c .before .before .loop .node) (c .region-of .result)
+    (c : tie.After-region-at Inv-loop μ-loop) (t : Table) → Class (startAt (c .before)) t
+    → RegionAround t (c .before .before .loop .node) (c .region-at .result)
 around c t h =
     let loop = c .before .before .loop in
-    c .region-of .ensures t (around-at h (loop .node) (loop .inv .0) (inside (c .before)))
+    around-of (around-at h (loop .node) (loop .inv .0) (inside (c .before))) (c .region-at .result) (c .region-at .ensures)
 
 -- Its last corner is in the class.
 ends :
-    (c : tie.After-region-of Inv-loop μ-loop) (t : Table) → Class (startAt (c .before)) t
-    → c .region-of .result .from + c .region-of .result .region .top < lastOf (startAt (c .before))
+    (c : tie.After-region-at Inv-loop μ-loop) (t : Table) → Class (startAt (c .before)) t
+    → c .region-at .result .first + c .region-at .result .region .top < lastOf (startAt (c .before))
 ends c t h =
     let loop = c .before .before .loop in
-    top-below h (loop .node) (loop .inv .0) (inside (c .before)) (c .region-of .result) (around c t h)
+    top-below h (loop .node) (loop .inv .0) (inside (c .before)) (c .region-at .result) (around c t h)
 
 -- The region of a turn, seen from behind the call that follows its edges.
-abbrev regionOf : tie.After-spread-region Inv-loop μ-loop → tie.After-region-of Inv-loop μ-loop
+abbrev regionOf : tie.After-spread-region Inv-loop μ-loop → tie.After-region-at Inv-loop μ-loop
 regionOf c = c .before .before .before .before
 
 -- Its edges were followed.
 followed :
     (c : tie.After-spread-region Inv-loop μ-loop) (t : Table) → Class (startAt (regionOf c .before)) t
     → ClassTo t (startAt (regionOf c .before) .args .goal) (startAt (regionOf c .before) .args .block) (startAt (regionOf c .before) .args .class)
-    (startAt (regionOf c .before) .args .low) (regionOf c .region-of .result .from + regionOf c .region-of .result .region .top + 1)
+    (startAt (regionOf c .before) .args .low) (regionOf c .region-at .result .first + regionOf c .region-at .result .region .top + 1)
     (startAt (regionOf c .before) .args .words .now) (startAt (regionOf c .before) .args .pending .now) (c .spread-region .last .0)
     (c .spread-region .last .1 .0)
 followed c t h =
@@ -75,10 +78,38 @@ followed c t h =
     let node = loop .node in
     let low = loop .inv .0 in
     let high = inside (at .before) in
-    let r = at .region-of .result in
+    let r = at .region-at .result in
     let s = loop .inv .3 t h in
     class-region h node low high r (around at t h) {ws″ = c .spread-region .last .0} {pend″ = c .spread-region .last .1 .0} s
     (c .spread-region .ensures t (region-here h node low high r (around at t h)) (handed-now h s))
+
+-- The call for the region's highest index gives it.
+abbrev spreadOf : tie.After-top Inv-loop μ-loop → tie.After-spread-region Inv-loop μ-loop
+spreadOf c = c .before .before .before .before .before
+
+abbrev startOf : tie.After-top Inv-loop μ-loop → tie.Start Inv-loop μ-loop
+startOf c = startAt (regionOf (spreadOf c) .before)
+
+top-here : (c : tie.After-top Inv-loop μ-loop) → c .top .result ≡ regionOf (spreadOf c) .region-at .result .region .top
+top-here c =
+    let at = regionOf (spreadOf c) in
+    let s = at .region-at .result .region in
+    c .top .ensures ∙ sym (top-is s (view s) (holds s (around at (startOf c .pre .0) (startOf c .pre .1) .at-region .valid)))
+
+-- Where the next node is looked for.
+next :
+    (c : tie.After-top Inv-loop μ-loop) (t : Table) → Class (startOf c) t
+    → ClassTo t (startOf c .args .goal) (startOf c .args .block) (startOf c .args .class)
+    (startOf c .args .low) (regionOf (spreadOf c) .region-at .result .first + c .top .result + 1)
+    (startOf c .args .words .now) (startOf c .args .pending .now) (spreadOf c .spread-region .last .0)
+    (spreadOf c .spread-region .last .1 .0)
+next c t h =
+    subst
+    (λ (k : ℕ).
+    ClassTo t (startOf c .args .goal) (startOf c .args .block) (startOf c .args .class) (startOf c .args .low)
+    (regionOf (spreadOf c) .region-at .result .first + k + 1) (startOf c .args .words .now) (startOf c .args .pending .now)
+    (spreadOf c .spread-region .last .0) (spreadOf c .spread-region .last .1 .0))
+    (sym (top-here c)) (followed (spreadOf c) t h)
 
 mul-first : tie.Need-mul-first Inv-loop μ-loop
 mul-first c = omega (arith, class-fits (c .before .before .before .before .before .before .before .before .pre .1))
@@ -105,10 +136,10 @@ loop-holds c =
       λ t h. class-skip _ _ _ refl (bound-read pend (class-room h .1)) due (class-none h),
     )
 
-region-of-requires : tie.Need-region-of-requires Inv-loop μ-loop
-region-of-requires c κs =
+region-at-requires : tie.Need-region-at-requires Inv-loop μ-loop
+region-at-requires c κs =
     let h = startAt c .pre .1 in
-    (startAt c .pre .0, around-at h (c .before .loop .node) (c .before .loop .inv .0) (inside c))
+    around-ready (around-at h (c .before .loop .node) (c .before .loop .inv .0) (inside c))
 
 spread-region-requires : tie.Need-spread-region-requires Inv-loop μ-loop
 spread-region-requires c κs =
@@ -117,57 +148,59 @@ spread-region-requires c κs =
     let t = startAt (at .before) .pre .0 in
     let h = startAt (at .before) .pre .1 in (
       t,
-      region-here h (loop .node) (loop .inv .0) (inside (at .before)) (at .region-of .result) (around at t h),
+      region-here h (loop .node) (loop .inv .0) (inside (at .before)) (at .region-at .result) (around at t h),
       handed-now h (loop .inv .3 t h),
     )
 
-cast-next : tie.Need-cast-next Inv-loop μ-loop
-cast-next c = search needs
+top-requires : tie.Need-top-requires Inv-loop μ-loop
+top-requires c κs =
+    let at = c .before .before .before .before .before .before .before .before in
+    let start = startAt (at .before) in
+    around at (start .pre .0) (start .pre .1) .at-region .valid
 
 add-next : tie.Need-add-next Inv-loop μ-loop
 add-next c =
-    let at = c .before .before .before .before .before .before .before .before .before in
-    let start = startAt (at .before) in
-    omega (arith, ends at (start .pre .0) (start .pre .1), class-fits (start .pre .1))
+    omega (arith, top-here c, ends (regionOf (spreadOf c)) (startOf c .pre .0) (startOf c .pre .1), class-fits (startOf c .pre .1))
 
 add-next-2 : tie.Need-add-next-2 Inv-loop μ-loop
 add-next-2 c =
-    let at = c .before .before .before .before .before .before .before .before .before in
-    let start = startAt (at .before) in
-    omega (arith, ends at (start .pre .0) (start .pre .1), class-fits (start .pre .1))
+    omega (arith, top-here c, ends (regionOf (spreadOf c)) (startOf c .pre .0) (startOf c .pre .1), class-fits (startOf c .pre .1))
 
 slice-read-next-due-2 : tie.Need-slice-read-next-due-2 Inv-loop μ-loop
 slice-read-next-due-2 c =
-    let spread = c .before .before .before .before .before .before .before in
-    let start = startAt (regionOf spread .before) in
-    omega (arith, room-now (start .pre .1) (followed spread (start .pre .0) (start .pre .1)))
+    let top = c .before .before in
+    omega (arith, room-now (startOf top .pre .1) (next top (startOf top .pre .0) (startOf top .pre .1)))
 
 next-due-requires-2 : tie.Need-next-due-requires-2 Inv-loop μ-loop
 next-due-requires-2 c κs =
-    let spread = c .before .before .before .before .before .before .before in
-    let start = startAt (regionOf spread .before) in
-    let last = ends (regionOf spread) (start .pre .0) (start .pre .1) in
-    (omega arith, room-now (start .pre .1) (followed spread (start .pre .0) (start .pre .1)) .0)
+    let top = c .before .before in
+    let last = ends (regionOf (spreadOf top)) (startOf top .pre .0) (startOf top .pre .1) in
+    let is = top-here top in
+    (omega arith, room-now (startOf top .pre .1) (next top (startOf top .pre .0) (startOf top .pre .1)) .0)
 
 loop-less : tie.Need-loop-less Inv-loop μ-loop
 loop-less c =
-    let spread = c .before .before .before .before .before .before .before .before in
-    let at = regionOf spread in
-    let start = startAt (at .before) in
-    omega (arith, inside (at .before), around at (start .pre .0) (start .pre .1) .below, c .next-due2 .ensures .from)
+    let top = c .before .before .before in
+    let at = regionOf (spreadOf top) in
+    omega (
+      arith,
+      top-here top,
+      inside (at .before),
+      around at (startOf top .pre .0) (startOf top .pre .1) .below,
+      c .next-due2 .ensures .from,
+    )
 
 loop-again : tie.Need-loop-again Inv-loop μ-loop
 loop-again c =
-    let spread = c .before .before .before .before .before .before .before .before in
-    let at = regionOf spread in
-    let start = startAt (at .before) in
+    let top = c .before .before .before in
+    let at = regionOf (spreadOf top) in
     let due = c .next-due2 .ensures in (
-      omega (arith, at .before .before .loop .inv .0, around at (start .pre .0) (start .pre .1) .below, due .from),
+      omega (arith, top-here top, at .before .before .loop .inv .0, around at (startOf top .pre .0) (startOf top .pre .1) .below, due .from),
       due .within,
       refl,
       λ t h.
-          let s = followed spread t h in
-          class-skip _ _ _ refl (bound-read (spread .spread-region .last .1 .0) (room-now h s .1)) due s,
+          let s = next top t h in
+          class-skip _ _ _ refl (bound-read (spreadOf top .spread-region .last .1 .0) (room-now h s .1)) due s,
     )
 
 same-length : tie.Need-same-length Inv-loop μ-loop
@@ -196,9 +229,9 @@ spread-class-spec =
     slice-read-next-due
     next-due-requires
     loop-holds
-    region-of-requires
+    region-at-requires
     spread-region-requires
-    cast-next
+    top-requires
     add-next
     add-next-2
     slice-read-next-due-2

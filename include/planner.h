@@ -1,11 +1,13 @@
 /*
  * The changeover planner: finds the least total charge with which a unit reaches its goal mode, and a route that comes to it.
  *
- * Link libplanner.a, which `rt staticlib planner` writes to target/staticlib/. It needs memcpy and memset, no heap and no operating
- * system: it works in the memory that the caller lends, and on the stack (docs/BENCH.md says how much).
+ * Link libplanner.a. For x86-64 `rt staticlib planner` writes it to target/staticlib/; for Cortex-M0+ and M4 `unit/build` writes it to
+ * target/unit/m0plus/ and target/unit/m4/. It needs memcpy and memset, on Cortex-M also libgcc, no heap and no operating system: it works
+ * in the memory that the caller lends, and on the stack (docs/BENCH.md and docs/UNIT.md say how much).
  *
- * The call is proved to do what is written here for every table and every length. A caller in C is checked by nobody: it must pass what
- * the types below say.
+ * The code of the call is proved to do what is written here for every table and every length. What makes it into a library is not proved
+ * but tested: the compiler and, for Cortex-M, the lines of C by which a size_t of 32 bits stands for the 64 bits of a length in the proved
+ * code (docs/UNIT.md). A caller in C is checked by nobody: it must pass what the types below say.
  */
 #ifndef PLANNER_H
 #define PLANNER_H

@@ -1,18 +1,25 @@
 #!/usr/bin/env python3
 """retarget.py CLANG TRIPLE IN.ll OUT.ll WIDE.h: makes IR that was emitted for x86-64 into IR for a 32-bit target.
 
-It refuses IR whose meaning could change on the way. It changes the data layout and the triple, removes the attributes of x86, keeps the functions of APART out of
-line, and renames each exported call NAME to wide_NAME: a slice is a pointer and a length of 64 bits there. WIDE.h declares those for shim.c, which has the calls of
-planner.h.
+It refuses IR whose meaning could change on the way. It changes the data layout and the triple, removes the attributes of
+x86, keeps the functions of APART out of line, and renames each exported call NAME to wide_NAME: a slice is a pointer and
+a length of 64 bits there. WIDE.h declares those for shim.c, which has the calls of planner.h.
 """
 import re
 import subprocess
 import sys
 
-# Inlined into one another these would have their frames, each with copies of a table, on the stack at once; apart they use the same stack one after the other.
+# Inlined these would have their frames, each with copies of a table, on the stack at once; apart they use the same stack
+# one after the other.
 APART = ['reader::read', 'search::search', 'route::read_route']
 
-C_TYPES = {'void': 'void', 'i8': 'uint8_t', 'i16': 'uint16_t', 'i32': 'uint32_t', 'i64': 'uint64_t', 'ptr': 'const void *'}
+# Tag_ABI_VFP_args: no float is passed, so the calls are the same under either float ABI. Without this the linker refuses
+# firmware with hard floats.
+EITHER_FLOAT_ABI = 'module asm ".eabi_attribute 28, 3"\n'
+
+C_TYPES = {
+    'void': 'void', 'i8': 'uint8_t', 'i16': 'uint16_t', 'i32': 'uint32_t', 'i64': 'uint64_t', 'ptr': 'const void *',
+}
 
 
 def need(holds, why):
@@ -21,26 +28,29 @@ def need(holds, why):
 
 
 def refuse_unportable(ir):
-    """A pointer has 32 bits on the target. So no pointer is made a number; objects are reached by byte offsets, which leave each pointer 8 bytes; and alignments
-    do not come from the layout."""
+    """A pointer has 32 bits on the target. So none may be made a number or back; objects are reached by byte offsets, which
+    leave each pointer 8 bytes; and alignments do not come from the layout."""
     for line in ir.splitlines():
         if not re.match(r'\s', line):
             continue
         need(not re.search(r'\b(ptrtoint|inttoptr|i128|asm|vscale)\b|<\d+ x ', line), 'not portable: ' + line)
         need(', align ' in line or not re.search(r'= alloca | load | store ', line), 'no alignment: ' + line)
-        need('getelementptr' not in line or re.search(r'getelementptr( inbounds| nuw| nusw)* i8, ptr', line), 'not a byte offset: ' + line)
+        offset = re.search(r'getelementptr( inbounds| nuw| nusw)* i8, ptr', line)
+        need(offset or 'getelementptr' not in line, 'not a byte offset: ' + line)
 
 
 def layout_and_triple(clang, triple):
-    empty = subprocess.run([clang, '--no-default-config', '--target=' + triple, '-S', '-emit-llvm', '-x', 'c', '-', '-o', '-'], input='', check=True, capture_output=True,
-                           text=True).stdout
+    command = [clang, '--no-default-config', '--target=' + triple, '-S', '-emit-llvm', '-x', 'c', '-', '-o', '-']
+    empty = subprocess.run(command, input='', check=True, capture_output=True, text=True).stdout
     layout, triple = (re.search(r'^target %s = .*$' % word, empty, re.M).group(0) for word in ('datalayout', 'triple'))
-    need(re.match(r'target datalayout = "e-.*p:32:32-.*i64:64-', layout), 'neither little-endian with pointers of 32 bits nor i64 aligned by 8: ' + layout)
+    need(re.match(r'target datalayout = "e-.*p:32:32-.*i64:64-', layout),
+         'not little-endian with pointers of 32 bits and i64 aligned by 8: ' + layout)
     return layout, triple
 
 
 def keep_apart(ir, name):
-    ir, count = re.subn(r'^(define internal [^@]*@"%s"\(.*\)) (#\d+ \{)$' % re.escape(name), r'\1 noinline \2', ir, flags=re.M)
+    head = r'^(define internal [^@]*@"%s"\(.*\)) (#\d+ \{)$' % re.escape(name)
+    ir, count = re.subn(head, r'\1 noinline \2', ir, flags=re.M)
     need(count == 1, 'APART names %s, which is not in the bitcode' % name)
     return ir
 
@@ -54,11 +64,14 @@ def rename_exports(ir):
         types = [parameter.split()[0] for parameter in parameters.split(', ') if parameter]
         for kind in [result] + types:
             need(kind in C_TYPES, '%s has the type %s, for which there is no rule' % (name, kind))
-        prototypes.append('%s wide_%s(%s);\n' % (C_TYPES[result], name, ', '.join(C_TYPES[kind] for kind in types) or 'void'))
-        return 'define hidden %s%s @wide_%s(%s)' % ('zeroext ' if result in ('i8', 'i16') else '', result, name, parameters)
+        declared = ', '.join(C_TYPES[kind] for kind in types) or 'void'
+        prototypes.append('%s wide_%s(%s);\n' % (C_TYPES[result], name, declared))
+        extended = 'zeroext ' if result in ('i8', 'i16') else ''
+        return 'define hidden %s%s @wide_%s(%s)' % (extended, result, name, parameters)
 
     ir = re.sub(r'^define (?!internal)(?:noundef )?(?:zeroext )?(\S+) @(\w+)\(([^)]*)\)', rename, ir, flags=re.M)
-    need(prototypes and not re.search(r'^define (?!internal|hidden)', ir, re.M), 'an exported call is not of the known form')
+    need(prototypes and not re.search(r'^define (?!internal|hidden)', ir, re.M),
+         'an exported call is not of the known form')
     return ir, prototypes
 
 
@@ -75,9 +88,10 @@ def main(clang, triple, source, target, header):
         ir = keep_apart(ir, name)
     ir, prototypes = rename_exports(ir)
     with open(target, 'w') as file:
-        file.write(ir)
+        file.write(ir + EITHER_FLOAT_ABI)
     with open(header, 'w') as file:
-        file.write('/* Written by unit/retarget.py: the exported calls as the bitcode has them. */\n#include <stdint.h>\n' + ''.join(prototypes))
+        file.write('/* Written by unit/retarget.py: the exported calls as the bitcode has them. */\n')
+        file.write('#include <stdint.h>\n' + ''.join(prototypes))
 
 
 if __name__ == '__main__':

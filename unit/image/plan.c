@@ -1,6 +1,7 @@
 /*
- * Plans every table on standard input (16 bits of length, the lower byte first, then the bytes) with what the unit lends, and prints what `plan` prints.
- * Around every call it checks each rule of planner.h on the memory. At the end standard error has the most stack that a call used.
+ * Plans every table on standard input (16 bits of length, the lower byte first, then the bytes) with what the unit lends,
+ * and prints what `plan` prints. Around every call it checks each rule of planner.h on the memory. At the end standard
+ * error has the most stack that a call used.
  */
 #include "planner.h"
 #include <stdlib.h>
@@ -18,7 +19,8 @@ static size_t steps[3];
 
 static size_t most_stack;
 
-/* Where the linker puts this symbol says which fault is put in after a call, for the test that it is found; 0 is none. */
+/* The address that the linker gives this symbol says which fault is put in after each call, to see that it is found; at 0
+   none is. */
 extern char put_in[];
 extern uint32_t __ram_end[], __flash_end[];
 
@@ -55,20 +57,23 @@ static size_t words_of_table(void)
     return 2 * e;
 }
 
-/* Calls with the result read as the whole register, of which a caller may rely on bits 8 to 31 being 0; the stack below is filled, to see how much is used. */
+/* Calls with the answer read as the whole register, since a caller may rely on bits 8 to 31 being 0, and with the stack
+   below filled, to see how much is used. */
 static __attribute__((noinline)) uint32_t call(size_t table_len, size_t words_len, size_t route_len)
 {
-    typedef uint32_t whole_register(const uint8_t *, size_t, uint32_t *, size_t, uint8_t *, size_t, uint32_t *, size_t *);
+    typedef uint32_t whole_register(const uint8_t *, size_t, uint32_t *, size_t,
+                                    uint8_t *, size_t, uint32_t *, size_t *);
     whole_register *volatile plan = (whole_register *)(void (*)(void))planner_plan;
     const uint32_t unused = 0xA5A5A5A5u;
-    volatile uint32_t *const limit = sbrk(0), *sp, *p; /* newlib's input and output keep a little below `limit` */
+    volatile uint32_t *const limit = sbrk(0), *sp, *p; /* below the limit newlib keeps what its input and output need */
     uint32_t answer;
 
     __asm__ volatile ("mov %0, sp" : "=r" (sp));
     for (p = limit; p < sp; p++) {
         *p = unused;
     }
-    answer = plan(table + GUARD, table_len, words + GUARD, words_len, route + GUARD, route_len, charge + 1, steps + 1);
+    answer = plan(table + GUARD, table_len, words + GUARD, words_len,
+                  route + GUARD, route_len, charge + 1, steps + 1);
     for (p = limit; p < sp && *p == unused; p++) {
     }
     require(p > limit, "stack: all of it was used");
@@ -125,14 +130,16 @@ static uint8_t plan(size_t table_len, size_t words_len, size_t route_len)
         require(zeros <= words_len, "words: fewer than 2E were lent");
     }
     for (i = 0; i < sizeof words / sizeof *words; i++) {
-        require(words[i] == (i >= GUARD && i < GUARD + zeros ? 0 : word_before(i)), "words: neither cleared nor untouched");
+        int cleared = i >= GUARD && i < GUARD + zeros;
+        require(words[i] == (cleared ? 0 : word_before(i)), "words: not cleared, or not untouched");
     }
     for (i = 0; i < sizeof route; i++) {
-        require((i >= GUARD && i < GUARD + written) || route[i] == byte_before(i), "route: touched beyond the steps");
+        int step = i >= GUARD && i < GUARD + written;
+        require(step || route[i] == byte_before(i), "route: touched beyond the steps");
     }
     for (i = 0; i < 3; i++) {
-        int may_change = i == 1 && answer == PLANNER_ROUTE;
-        require(may_change || (charge[i] == word_before(i) && steps[i] == word_before(i)), "charge or steps: touched");
+        int given = i == 1 && answer == PLANNER_ROUTE;
+        require(given || (charge[i] == word_before(i) && steps[i] == word_before(i)), "charge or steps: touched");
     }
     return (uint8_t)answer;
 }
@@ -187,8 +194,9 @@ static void plan_at_the_limits(size_t table_len)
     size_t need = words_of_table(), length = steps[1];
     uint32_t least = charge[1];
 
-    require(plan(table_len, need, length) == PLANNER_ROUTE && charge[1] == least && steps[1] == length, "limits: 2E words and the route's bytes are enough");
-    require(plan(table_len, need - 1, length) == PLANNER_TOO_FEW_WORDS, "limits: 2E - 1 words are too few");
+    require(plan(table_len, need, length) == PLANNER_ROUTE && charge[1] == least && steps[1] == length,
+            "limits: the same answer with just enough");
+    require(plan(table_len, need - 1, length) == PLANNER_TOO_FEW_WORDS, "limits: a word too few");
     require(length == 0 || plan(table_len, need, length - 1) == PLANNER_ROUTE_TOO_LONG, "limits: a route byte too few");
 }
 

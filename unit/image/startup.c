@@ -1,4 +1,5 @@
-/* Starts an image on the emulated unit: vector table, reset, and the end by a fault. Input and output are the host's, by newlib's semihosting. */
+/* Starts an image on the emulated unit: vector table, reset, and the end by a fault. Input and output are the host's, by
+   newlib's semihosting. */
 #include <stdint.h>
 #include <stdlib.h>
 #include <unistd.h>
@@ -16,21 +17,24 @@ static void fault(void)
 }
 
 __attribute__((section(".vectors"), used)) static void (*const vectors[16])(void) = {
-    (void (*)(void))__ram_end, reset, fault, fault, fault, fault, fault, fault, fault, fault, fault, fault, fault, fault, fault, fault,
+    (void (*)(void))__ram_end, reset, fault, fault, fault, fault, fault, fault,
+    fault, fault, fault, fault, fault, fault, fault, fault,
 };
 
-/* The Cortex-M0 machine has just the unit's memory. The Cortex-M4 machine has more: there the memory protection unit takes it away. */
+/* The machine with the Cortex-M0 has just the unit's memory. The one with the Cortex-M4 has more, which the memory
+   protection unit takes away. */
 static void limit_memory(void)
 {
 #if __ARM_ARCH == 7
-    volatile uint32_t *const control = (volatile uint32_t *)0xE000ED94, *const base = control + 2, *const attributes = control + 3;
-    enum { VALID = 1 << 4, ENABLE = 1, CACHED = 1 << 17, READ = 6 << 24, READ_WRITE = 3 << 24, NO_EXECUTE = 1 << 28 };
+    volatile uint32_t *const mpu = (volatile uint32_t *)0xE000ED90;
+    enum { CONTROL = 1, BASE = 3, ATTRIBUTES = 4 }; /* registers */
+    enum { ENABLE = 1, VALID = 1 << 4, CACHED = 1 << 17, READ = 6 << 24, READ_WRITE = 3 << 24, NO_EXECUTE = 1 << 28 };
 
-    *base = 0 | VALID | 0;                                     /* region 0: 2^(17 + 1) bytes of flash */
-    *attributes = READ | CACHED | 17 << 1 | ENABLE;
-    *base = 0x20000000 | VALID | 1;                            /* region 1: 2^(14 + 1) bytes of RAM */
-    *attributes = READ_WRITE | NO_EXECUTE | CACHED | 14 << 1 | ENABLE;
-    *control = ENABLE;                                         /* and nothing else */
+    mpu[BASE] = 0 | VALID | 0; /* region 0: 2^(17 + 1) bytes of flash */
+    mpu[ATTRIBUTES] = READ | CACHED | 17 << 1 | ENABLE;
+    mpu[BASE] = 0x20000000 | VALID | 1; /* region 1: 2^(14 + 1) bytes of RAM */
+    mpu[ATTRIBUTES] = READ_WRITE | NO_EXECUTE | CACHED | 14 << 1 | ENABLE;
+    mpu[CONTROL] = ENABLE; /* and nothing else */
 #endif
 }
 

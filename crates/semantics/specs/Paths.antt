@@ -13,7 +13,7 @@ pub mod Route
 pub mod Start
 pub mod FirstSome
 pub mod Greedy
--- Tables that are computed, and tables in words:
+-- Tables in words:
 pub mod Words
 pub mod Sum
 pub mod Sound

@@ -18,7 +18,8 @@ APART = ['reader::read', 'search::search', 'route::read_route']
 EITHER_FLOAT_ABI = 'module asm ".eabi_attribute 28, 3"\n'
 
 C_TYPES = {
-    'void': 'void', 'i8': 'uint8_t', 'i16': 'uint16_t', 'i32': 'uint32_t', 'i64': 'uint64_t', 'ptr': 'const void *',
+    'void': 'void', 'i1': '_Bool', 'i8': 'uint8_t', 'i16': 'uint16_t', 'i32': 'uint32_t', 'i64': 'uint64_t',
+    'ptr': 'const void *',
 }
 
 
@@ -28,11 +29,12 @@ def need(holds, why):
 
 
 def refuse_unportable(ir):
-    """A pointer has 32 bits on the target. So none may be made a number or back; objects are reached by byte offsets, which
-    leave each pointer 8 bytes; and alignments do not come from the layout."""
+    """A pointer has 32 bits on the target. So none may be made a number or back, or stand in a constant; objects are reached
+    by byte offsets, which leave each pointer 8 bytes; and alignments do not come from the layout."""
     for line in ir.splitlines():
-        if not re.match(r'\s', line):
+        if line.startswith(('target ', 'attributes ')):
             continue
+        need(not re.match(r'@.*\bptr\b', line), 'a pointer in a constant: ' + line)
         need(not re.search(r'\b(ptrtoint|inttoptr|i128|asm|vscale)\b|<\d+ x ', line), 'not portable: ' + line)
         need(', align ' in line or not re.search(r'= alloca | load | store ', line), 'no alignment: ' + line)
         offset = re.search(r'getelementptr( inbounds| nuw| nusw)* i8, ptr', line)
@@ -56,7 +58,7 @@ def keep_apart(ir, name):
 
 
 def rename_exports(ir):
-    """The callee extends a result of 8 or 16 bits to the register on Arm, which the IR leaves open: `zeroext`."""
+    """On Arm the callee extends a result of less than 32 bits to the register, which the IR leaves open: `zeroext`."""
     prototypes = []
 
     def rename(match):
@@ -66,7 +68,7 @@ def rename_exports(ir):
             need(kind in C_TYPES, '%s has the type %s, for which there is no rule' % (name, kind))
         declared = ', '.join(C_TYPES[kind] for kind in types) or 'void'
         prototypes.append('%s wide_%s(%s);\n' % (C_TYPES[result], name, declared))
-        extended = 'zeroext ' if result in ('i8', 'i16') else ''
+        extended = 'zeroext ' if result in ('i1', 'i8', 'i16') else ''
         return 'define hidden %s%s @wide_%s(%s)' % (extended, result, name, parameters)
 
     ir = re.sub(r'^define (?!internal)(?:noundef )?(?:zeroext )?(\S+) @(\w+)\(([^)]*)\)', rename, ir, flags=re.M)

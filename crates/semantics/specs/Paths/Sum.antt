@@ -10,7 +10,7 @@ unfoldable pub sum : (ℕ → ℕ) → ℕ → ℕ
 sum f zero = 0
 sum f (suc n) = sum f n + f n
 
-sum-same : (f g : ℕ → ℕ) (n : ℕ) → ((u : ℕ) → u < n → f u ≡ g u) → sum f n ≡ sum g n
+pub sum-same : (f g : ℕ → ℕ) (n : ℕ) → ((u : ℕ) → u < n → f u ≡ g u) → sum f n ≡ sum g n
 unfolding sum
 sum-same f g zero same = refl
 sum-same f g (suc n) same = omega (arith, same n (omega arith), sum-same f g n (λ u h. same u (omega arith)))

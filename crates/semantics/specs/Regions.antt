@@ -9,3 +9,4 @@ pub mod WellFormed
 pub mod Compare
 pub mod Meets
 pub mod Points
+pub mod Commute

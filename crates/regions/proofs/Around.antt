@@ -3,7 +3,7 @@
 use mathlib.Core.Path.{_≡_, refl, ap, _∙_, sym}
 use mathlib.Core.Bool.{cond}
 use mathlib.Core.List.{List, [], _∷_}
-use Prim.Native.Nat.{ℕ, zero, suc, pred, _+_, _-_, _<_, _≤_}
+use Prim.Native.Nat.{ℕ, zero, suc, _+_, _-_, _<_, _≤_}
 use native.Mathlib.Omega.{arith}
 use lib.Dec.{leb}
 use lib.ListN.{length, take}
@@ -18,7 +18,7 @@ use Rattle.regions.specs.declared.nodes.Around.{Around}
 use Rattle.regions.specs.Held.{mostTimers, mostCorners, highest, pad, pack, packCorner}
 use Rattle.regions.specs.Nodes.{packNode, regionAround, packAround}
 use Rattle.regions.specs.Laws.Fields.{packed}
-use Rattle.regions.specs.Laws.Around.{around-sized, around-prices, around-well-formed, around-inside, around-number}
+use Rattle.regions.specs.Laws.Around.{around-sized, around-prices, around-well-formed, around-number}
 
 -- The indices of the corners of a region with the corners 0 to top, as its prices.
 abbrev pub indices : ℕ → List ℕ

@@ -10,3 +10,4 @@ pub mod Compare
 pub mod Meets
 pub mod Points
 pub mod Windows
+pub mod Commute

@@ -1,5 +1,4 @@
--- What a caller may conclude of corners and their numbers: `corner` and `corner_at` are inverse to each other, and the corner with a number
--- belongs to the regions of its groups.
+-- The number of a region's corner is below the number of corners, and the corner with a number belongs to the regions of its groups.
 -- Assumes nothing.
 use mathlib.Core.Path.{_≡_, refl, _∙_, sym}
 use mathlib.Core.List.{List, List·Memᴰ}
@@ -10,7 +9,7 @@ use Rattle.semantics.specs.Region.{PricedRegion, WellFormed}
 use Rattle.semantics.specs.NodeCount.{cornerCount}
 use Rattle.semantics.specs.Corners.Corner.{cornerOf, corners, cornerNumber, cornerAt}
 use Rattle.semantics.specs.Corners.Complete.{IsCorner, corner-listed, corners-sound}
-use Rattle.semantics.specs.Corners.Number.{cornerAt-listed, number-below, cornerAt-number}
+use Rattle.semantics.specs.Corners.Number.{cornerAt-listed, number-below}
 use Rattle.semantics.specs.Answers.Places.{highest-prices}
 use Rattle.regions.specs.declared.Region.{Region}
 use Rattle.regions.specs.Held.{highest}
@@ -22,10 +21,6 @@ module _ (s : Region) (r : PricedRegion) (h : Holds s r) (j : ℕ) (there : j �
 
   pub corner-below : cornerNumber (s .timers) (cornerOf r j) < cornerCount (s .timers) 1
   corner-below = number-below (s .timers) (cornerOf r j) corner-listed-at
-
-  -- The corner with the number of a corner is that corner. (The other way round: `number-cornerAt` of the definitions' theorems.)
-  pub corner-again : cornerAt (s .timers) (cornerNumber (s .timers) (cornerOf r j)) ≡ cornerOf r j
-  corner-again = cornerAt-number (s .timers) (cornerOf r j) corner-listed-at
 
 module _ (n i : ℕ) (some : 0 < n) (there : i < cornerCount n 1) where
   is-corner : IsCorner n (cornerAt n i)

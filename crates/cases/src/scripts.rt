@@ -1,55 +1,105 @@
-// Scripts of operations on a region. A script is a list of pairs of bytes, an operation and its amount: d RATE delay, l RATE linger,
-// r TIMER reset, a RESETS reset of several, c PRICE charge. The others are tests: x, y or z CONDITION of a condition byte on timer 0, 1 or
-// 2, and w CEILING of one ceiling for every timer.
+// `region TIMERS STEP STEP ..`: operations on a region, from the start region on, and tests of it. A step is a letter and a number.
 ghost use Prim.Native.Nat.{_≤_, _<_};
-ghost use mathlib.Core.Path.{_≡_};
 ghost use Rattle.regions.specs.Held.{mostTimers, view, Valid, PriceRoom};
 ghost use Rattle.cases.specs.Step.{Follows};
 use crate::print;
+use crate::tokens;
+use crate::tokens::Number;
 use regions::Region;
 
-// Pairs past these are not run.
-const MOST_STEPS: usize = 32;
+// More steps are not understood.
+const MOST_STEPS: usize = 256;
 
 // A delay is made only from a region within this ceiling.
 const MOST_WHOLE: u8 = 15;
 
+pub fn region(line: &[u8], at: usize) -> bool {
+    let timers = tokens::decimal(line, at);
+    let n = timers.value;
+    if n < 1 {
+        return false;
+    }
+    if Region::MOST_TIMERS < n {
+        return false;
+    }
+    run(line, timers.next, n)
+}
+
 // Prints the start region, then each step with what comes of it.
-pub fn run(name: &[u8], timers: usize, script: &[u8])
+fn run(line: &[u8], from: usize, timers: usize) -> bool
     requires { ⌜ (1 ≤ timers) × (timers ≤ mostTimers) ⌝ }
 {
-    print::text(name);
-    print::end_line();
+    let mut at = from;
     let mut region = Region::start(timers);
-    show(b"  start ", timers, region);
-    for i in 0..MOST_STEPS {
-        let at = 2 * i;
-        if script.len() <= at + 1 {
-            return;
+    print::text(b"start");
+    parts(region);
+    print::end_line();
+    for _ in 0..MOST_STEPS {
+        if tokens::ends(line, at) {
+            return true;
         }
-        region = step(region, script[at], script[at + 1]);
+        let step = step_at(line, at);
+        at = step.next;
+        if at == tokens::NOWHERE {
+            return false;
+        }
+        region = stepped(region, step.operation, step.amount);
+        show(region, step.operation, step.amount);
+    }
+    tokens::ends(line, at)
+}
+
+struct Step {
+    operation: u8,
+    amount: u8,
+    next: usize,
+}
+
+fn step_at(line: &[u8], at: usize) -> Step {
+    let from = tokens::start(line, at);
+    if line.len() <= from {
+        return no_step();
+    }
+    let operation = line[from];
+    let amount = amount_at(line, from + 1, operation);
+    if 255 < amount.value {
+        return no_step();
+    }
+    Step {
+        operation,
+        amount: amount.value as u8,
+        next: amount.next,
     }
 }
 
-// One step, printed. A test changes nothing, and neither does a byte that names no operation.
-fn step(region: Region, operation: u8, amount: u8) -> Region
+fn no_step() -> Step {
+    Step {
+        operation: 0,
+        amount: 0,
+        next: tokens::NOWHERE,
+    }
+}
+
+// A condition byte is in hexadecimal, as document 01 writes it, and every other number in decimal. No other letter is understood.
+fn amount_at(line: &[u8], at: usize, operation: u8) -> Number {
+    match operation {
+        b'x' | b'y' | b'z' => tokens::byte(line, at),
+        b'd' | b'l' | b'r' | b'a' | b'c' | b'w' => tokens::digits(line, at),
+        _ => tokens::no_number(),
+    }
+}
+
+// The region after an operation. A test changes nothing.
+fn stepped(region: Region, operation: u8, amount: u8) -> Region
     requires { ⌜ Valid region × PriceRoom amount (view region) ⌝ }
     ensures { λ r. ⌜ Follows amount region r ⌝ }
 {
     match operation {
-        b'd' => shown(b"  delay ", amount, delayed(region, amount as u32)),
-        b'l' => shown(b"  linger ", amount, region.linger(amount as u32)),
-        b'r' => shown(
-            b"  reset ",
-            amount,
-            region.reset(amount as usize % Region::MOST_TIMERS),
-        ),
-        b'a' => shown(b"  resets ", amount, region.reset_all(amount)),
-        b'c' => shown(b"  charge ", amount, region.charge(amount as u32)),
-        b'x' => condition(region, 0, amount),
-        b'y' => condition(region, 1, amount),
-        b'z' => condition(region, 2, amount),
-        b'w' => ceilings(region, amount),
+        b'd' => delayed(region, amount as u32),
+        b'l' => region.linger(amount as u32),
+        b'r' => region.reset(amount as usize % Region::MOST_TIMERS),
+        b'a' => region.reset_all(amount),
+        b'c' => region.charge(amount as u32),
         _ => region,
     }
 }
@@ -66,16 +116,18 @@ fn delayed(region: Region, rate: u32) -> Region
     }
 }
 
-// The region itself, after it was printed.
-fn shown(operation: &[u8], amount: u8, region: Region) -> Region
-    ensures { λ r. ⌜ r ≡ region ⌝ }
+// The line of a step: what the operation led to, or what the test says.
+fn show(region: Region, operation: u8, amount: u8)
+    requires { ⌜ Valid region ⌝ }
 {
-    show(operation, amount as usize, region);
-    region
-}
-
-fn show(operation: &[u8], amount: usize, region: Region) {
-    print::field(operation, amount);
+    match operation {
+        b'd' => print::field(b"delay ", amount as usize),
+        b'l' => print::field(b"linger ", amount as usize),
+        b'r' => print::field(b"reset ", amount as usize),
+        b'a' => print::field(b"resets ", amount as usize),
+        b'c' => print::field(b"charge ", amount as usize),
+        _ => return test(region, operation, amount),
+    }
     parts(region);
     print::end_line();
 }
@@ -106,32 +158,39 @@ fn list(name: &[u8], entries: [u32; Region::MOST_CORNERS], n: usize) {
     }
 }
 
-// Whether the region meets a condition.
-fn condition(region: Region, timer: usize, byte: u8) -> Region
-    requires { ⌜ Valid region × (timer < mostTimers) ⌝ }
-    ensures { λ r. ⌜ r ≡ region ⌝ }
+fn test(region: Region, operation: u8, amount: u8)
+    requires { ⌜ Valid region ⌝ }
 {
-    print::text(b"  condition ");
+    match operation {
+        b'x' => condition(region, 0, amount),
+        b'y' => condition(region, 1, amount),
+        b'z' => condition(region, 2, amount),
+        _ => ceilings(region, amount),
+    }
+}
+
+// Whether the region meets a condition.
+fn condition(region: Region, timer: usize, byte: u8)
+    requires { ⌜ Valid region × (timer < mostTimers) ⌝ }
+{
+    print::text(b"condition ");
     print::hex(byte);
     print::field(b" on timer ", timer);
     verdict(region.meets(timer, byte));
-    region
 }
 
 // Whether the region is within one ceiling for every timer.
-fn ceilings(region: Region, ceiling: u8) -> Region
+fn ceilings(region: Region, ceiling: u8)
     requires { ⌜ Valid region ⌝ }
-    ensures { λ r. ⌜ r ≡ region ⌝ }
 {
-    print::field(b"  ceilings ", ceiling as usize);
+    print::field(b"ceilings ", ceiling as usize);
     verdict(region.within([ceiling; Region::MOST_TIMERS]));
-    region
 }
 
 fn verdict(met: bool) {
     if met {
-        print::text(b": met\n");
+        print::line(b": met");
     } else {
-        print::text(b": not met\n");
+        print::line(b": not met");
     }
 }

@@ -11,7 +11,7 @@ slice-relend-prefix-plan c = search needs
 
 slice-aggregate-plan : tie.Need-slice-aggregate-plan
 slice-aggregate-plan c =
-    let start = c .before .before .before .before .before in
+    let start = c .before .before .before .before in
     sym (length-take-le (start .args .lent) (start .args .words .now) (start .pre .0))
 
 slice-relend-prefix-plan-2 : tie.Need-slice-relend-prefix-plan-2
@@ -19,32 +19,32 @@ slice-relend-prefix-plan-2 c = search needs
 
 slice-aggregate-plan-2 : tie.Need-slice-aggregate-plan-2
 slice-aggregate-plan-2 c =
-    let start = c .before .before .before .before .before .before in
+    let start = c .before .before .before .before .before in
     sym (length-take-le (start .args .room) (start .args .route .now) (start .pre .1))
 
 plan-requires : tie.Need-plan-requires
 plan-requires c κs = search needs
 
-text-requires : tie.Need-text-requires
-text-requires c κs = search needs
-
-end-line-requires : tie.Need-end-line-requires
-end-line-requires c κs = search needs
-
 show-requires : tie.Need-show-requires
 show-requires c κs = search needs
+
+past-requires : tie.Need-past-requires
+past-requires c κs = search needs
+
+slice-aggregate-field : tie.Need-slice-aggregate-field
+slice-aggregate-field c = search needs
+
+field-requires : tie.Need-field-requires
+field-requires c κs = search needs
+
+past-requires-2 : tie.Need-past-requires-2
+past-requires-2 c κs = search needs
 
 steps-requires : tie.Need-steps-requires
 steps-requires c κs = search needs
 
-words-are-requires : tie.Need-words-are-requires
-words-are-requires c κs = search needs
-
-words-are-requires-2 : tie.Need-words-are-requires-2
-words-are-requires-2 c κs = search needs
-
-bytes-are-requires : tie.Need-bytes-are-requires
-bytes-are-requires c κs = search needs
+past-requires-3 : tie.Need-past-requires-3
+past-requires-3 c κs = search needs
 
 said-requires : tie.Need-said-requires
 said-requires c κs = search needs
@@ -67,13 +67,13 @@ planned-spec =
     slice-relend-prefix-plan-2
     slice-aggregate-plan-2
     plan-requires
-    text-requires
-    end-line-requires
     show-requires
+    past-requires
+    slice-aggregate-field
+    field-requires
+    past-requires-2
     steps-requires
-    words-are-requires
-    words-are-requires-2
-    bytes-are-requires
+    past-requires-3
     said-requires
     same-length
     same-length-2

@@ -1,28 +1,27 @@
--- `cases::plans::words_are` meets its contract.
+-- `cases::tokens::begins` meets its contract.
 -- Assumes nothing.
-use Prim.{Unit}
-use Prim.Native.Nat.{_-_}
+use Prim.Native.Nat.{_-_, _≤_}
 use native.Mathlib.Omega.{arith}
-use Rattle.cases.proofs.plans.words_are.Statement.{statement}
-use Rattle.cases.proofs.plans.words_are.Tie as tie
+use Rattle.cases.proofs.tokens.begins.Statement.{statement}
+use Rattle.cases.proofs.tokens.begins.Tie as tie
 
 abbrev Inv-loop : tie.InvT-loop
-Inv-loop words from to x i₀ i = Unit {0}
+Inv-loop line word i₀ i-end i = i ≤ i-end
 
 abbrev μ-loop : tie.MeasureT-loop
-μ-loop words from to x i₀ i = to - i
-
-loop-holds : tie.Need-loop-holds Inv-loop μ-loop
-loop-holds c = tt
+μ-loop line word i₀ i-end i = i-end - i
 
 returns : tie.Need-returns Inv-loop μ-loop
 returns c = tt
 
-mul-if2 : tie.Need-mul-if2 Inv-loop μ-loop
-mul-if2 c = omega arith
+loop-holds : tie.Need-loop-holds Inv-loop μ-loop
+loop-holds c = omega arith
 
 shared-slice-read-if2 : tie.Need-shared-slice-read-if2 Inv-loop μ-loop
 shared-slice-read-if2 c = omega arith
+
+shared-slice-read-if2-2 : tie.Need-shared-slice-read-if2-2 Inv-loop μ-loop
+shared-slice-read-if2-2 c = omega arith
 
 returns-2 : tie.Need-returns-2 Inv-loop μ-loop
 returns-2 c = tt
@@ -34,21 +33,21 @@ loop-less : tie.Need-loop-less Inv-loop μ-loop
 loop-less c = omega arith
 
 loop-again : tie.Need-loop-again Inv-loop μ-loop
-loop-again c = tt
+loop-again c = omega arith
 
 returns-3 : tie.Need-returns-3 Inv-loop μ-loop
 returns-3 c = tt
 
-pub words-are-spec : {M : Type 1} → statement M
-words-are-spec =
+pub begins-spec : {M : Type 1} → statement M
+begins-spec =
     tie.close
     (tie.spec
     Inv-loop
     μ-loop
-    loop-holds
     returns
-    mul-if2
+    loop-holds
     shared-slice-read-if2
+    shared-slice-read-if2-2
     returns-2
     add-i
     loop-less

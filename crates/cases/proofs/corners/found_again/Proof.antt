@@ -1,4 +1,4 @@
--- `cases::numbers::found_again` meets its contract. No more corners are found again than were looked at.
+-- `cases::corners::found_again` meets its contract. No more corners are found again than were looked at.
 -- Assumes nothing.
 use Prim.Native.Nat.{ℕ, suc, _-_, _≤_}
 use mathlib.Core.Logic.{⊎-elim}
@@ -10,8 +10,8 @@ use Rattle.regions.specs.Held.{mostTimers, packCorner}
 use Rattle.regions.specs.Laws.Chain.{valid-pack}
 use Rattle.regions.specs.Laws.Corners.{corner-well-formed, corner-inside}
 use Rattle.regions.specs.Laws.CornerRegion.{corner-valid}
-use Rattle.cases.proofs.numbers.found_again.Statement.{statement}
-use Rattle.cases.proofs.numbers.found_again.Tie as tie
+use Rattle.cases.proofs.corners.found_again.Statement.{statement}
+use Rattle.cases.proofs.corners.found_again.Tie as tie
 
 abbrev Inv-loop : tie.InvT-loop
 Inv-loop timers found₀ number₀ number-end found number = (number ≤ number-end) × (found ≤ number)

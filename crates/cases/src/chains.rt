@@ -1,4 +1,4 @@
-// `chain TABLE STEP STEP ..`: the places of a chain, and what the words of a search say of each.
+// `chain STEP STEP ..: TABLE`: the places of a chain, and what the words of a search say of each.
 ghost use Prim.Native.Nat.{_≤_};
 ghost use mathlib.Core.Path.{_≡_};
 ghost use lib.ListN.{length};
@@ -19,24 +19,21 @@ use search::places::Stepped;
 
 const MOST_WORDS: usize = 6000;
 
-// More steps are not understood.
-const MOST_STEPS: usize = 256;
-
-pub fn chain(line: &[u8], at: usize) -> bool {
-    let given = tables::table(line, at);
-    if line.len() < given.next {
+pub fn chain(steps: &[usize], bytes: &[u8]) -> bool {
+    if tokens::MOST_NUMBERS < steps.len() {
         return false;
     }
+    let given = tables::judged(bytes);
     if !given.accepted {
         print::refused(given.refusal);
         return true;
     }
     let table = given.table;
-    searched(table, line, given.next)
+    searched(table, steps)
 }
 
-fn searched(table: Table, line: &[u8], at: usize) -> bool
-    requires { ⌜ IsTable table ⌝ }
+fn searched(table: Table, steps: &[usize]) -> bool
+    requires { ⌜ IsTable table × (length (now steps) ≤ 256) ⌝ }
 {
     let mut words = [0u32; MOST_WORDS];
     let goal = table.goal;
@@ -46,31 +43,25 @@ fn searched(table: Table, line: &[u8], at: usize) -> bool
             print::refused(n);
             true
         }
-        Searched::Nodes(_) => follow(table, &words, line, at),
+        Searched::Nodes(_) => follow(table, &words, steps),
     }
 }
 
 // The start and the places after the steps, as far as the steps are allowed.
-fn follow(table: Table, words: &[u32], line: &[u8], from: usize) -> bool
-    requires { ⌜ HasWords table (length (now words)) ⌝ }
+fn follow(table: Table, words: &[u32], steps: &[usize]) -> bool
+    requires { ⌜ HasWords table (length (now words)) × (length (now steps) ≤ 256) ⌝ }
 {
     let ceilings = table.ceilings;
-    let mut at = from;
     let mut place = Place::start(table);
     print::text(b"start");
     show(words, place, ceilings, 0);
-    for i in 0..MOST_STEPS {
-        if tokens::ends(line, at) {
-            return true;
-        }
-        let number = tokens::decimal(line, at);
-        at = number.next;
-        if 255 < number.value {
+    for i in 0..steps.len() {
+        let step = steps[i];
+        if 255 < step {
             return false;
         }
-        let byte = number.value as u8;
-        print::field(b"step ", byte as usize);
-        let stepped = next_place(table, place, byte);
+        print::field(b"step ", step);
+        let stepped = next_place(table, place, step as u8);
         if !stepped.allowed {
             print::line(b": not allowed");
             return true;
@@ -78,7 +69,7 @@ fn follow(table: Table, words: &[u32], line: &[u8], from: usize) -> bool
         place = stepped.place;
         show(words, place, ceilings, i + 1);
     }
-    tokens::ends(line, at)
+    true
 }
 
 // A step in the table's graph.
@@ -142,13 +133,11 @@ fn step<'a>(
 fn show(words: &[u32], place: Place, ceilings: [u8; Region::MOST_TIMERS], steps: usize)
     requires { ⌜ WordsReady place ceilings (now words) × (steps ≤ 256) ⌝ }
 {
-    print::field(b", mode ", place.mode);
+    if place.stands(ceilings, words, steps as u32) {
+        print::field(b", stands in mode ", place.mode);
+    } else {
+        print::field(b", does not stand in mode ", place.mode);
+    }
     let region = place.region;
     scripts::parts(region);
-    if place.stands(ceilings, words, steps as u32) {
-        print::field(b", stands after ", steps);
-    } else {
-        print::field(b", does not stand after ", steps);
-    }
-    print::end_line();
 }

@@ -2,22 +2,23 @@
 ghost use Prim.Native.Nat.{_≤_};
 ghost use Rattle.regions.specs.Held.{mostTimers};
 use crate::print;
-use crate::tokens;
 use regions::Region;
 
-pub fn corners(line: &[u8], at: usize) -> bool {
-    let timers = tokens::decimal(line, at);
-    if !tokens::ends(line, timers.next) {
+pub fn corners(numbers: &[usize], bytes: &[u8]) -> bool {
+    if bytes.len() != 0 {
         return false;
     }
-    let n = timers.value;
-    if n < 1 {
+    if numbers.len() != 1 {
         return false;
     }
-    if Region::MOST_TIMERS < n {
+    let timers = numbers[0];
+    if timers < 1 {
         return false;
     }
-    print::field(b"corners found again ", found_again(n));
+    if Region::MOST_TIMERS < timers {
+        return false;
+    }
+    print::field(b"corners found again ", found_again(timers));
     print::end_line();
     true
 }

@@ -74,38 +74,53 @@ fn run_line(line: &[u8]) {
     if line.len() == 0 {
         return;
     }
-    if line[0] == b'#' {
-        return;
-    }
-    if line[0] == b'=' {
-        print::line(line);
-        return;
-    }
-    if !called(line) {
-        print::text(b"not understood: ");
-        print::line(line);
+    match line[0] {
+        b'#' => {}
+        b'=' => print::line(line),
+        _ => run_case(line),
     }
 }
 
-// Runs the call that the line begins with, and answers whether the line was understood.
-fn called(line: &[u8]) -> bool {
-    if tokens::begins(line, b"plan ") {
-        return plans::plan(line, 4);
+// Runs a call, if the line is understood.
+fn run_case(line: &[u8]) {
+    let mut numbers = [0usize; tokens::MOST_NUMBERS];
+    let mut bytes = [0u8; tokens::MOST_BYTES];
+    let word = tokens::word(line);
+    let given = tokens::numbers(line, word.next, &mut numbers);
+    let table = tokens::bytes(line, tokens::table(line, given.next), &mut bytes);
+    let n = given.count;
+    let m = table.count;
+    if tokens::past(line, table.next, b' ') == line.len() {
+        if called(word.value, &numbers[..n], &bytes[..m]) {
+            return;
+        }
     }
-    if tokens::begins(line, b"read ") {
-        return readings::read(line, 4);
+    print::text(b"not understood: ");
+    print::line(line);
+}
+
+// The names of the calls, by their letters.
+const PLAN: usize = 0x706c_616e;
+
+const READ: usize = 0x7265_6164;
+
+const REGION: usize = 0x7265_6769_6f6e;
+
+const CORNERS: usize = 0x63_6f72_6e65_7273;
+
+const SEARCH: usize = 0x7365_6172_6368;
+
+const CHAIN: usize = 0x63_6861_696e;
+
+// Whether there is a call of that name that takes these numbers.
+fn called(word: usize, numbers: &[usize], bytes: &[u8]) -> bool {
+    match word {
+        PLAN => plans::plan(numbers, bytes),
+        READ => readings::read(numbers, bytes),
+        REGION => scripts::region(numbers, bytes),
+        CORNERS => corners::corners(numbers, bytes),
+        SEARCH => searches::search(numbers, bytes),
+        CHAIN => chains::chain(numbers, bytes),
+        _ => false,
     }
-    if tokens::begins(line, b"region ") {
-        return scripts::region(line, 6);
-    }
-    if tokens::begins(line, b"corners ") {
-        return corners::corners(line, 7);
-    }
-    if tokens::begins(line, b"search ") {
-        return searches::search(line, 6);
-    }
-    if tokens::begins(line, b"chain ") {
-        return chains::chain(line, 5);
-    }
-    false
 }

@@ -30,6 +30,11 @@ pub fn entry(n: u32) {
     field(b" ", n as usize);
 }
 
+pub fn letter(byte: u8) {
+    let one = [byte];
+    text(&one);
+}
+
 // A byte in hexadecimal, as document 01 writes them.
 pub fn hex(byte: u8) {
     io::print_hex(STDOUT_FILENO, byte as u64, 2);

@@ -1,16 +1,15 @@
-// `read TABLE`: what the reader says of the bytes, with the counts, the goal and E of a table.
+// `read: TABLE`: what the reader says of the bytes, with the counts, the goal and E of a table.
 ghost use Rattle.reader.specs.Held.{IsTable};
 use crate::print;
 use crate::tables;
-use crate::tokens;
 use reader::Table;
 use regions::nodes::Nodes;
 
-pub fn read(line: &[u8], at: usize) -> bool {
-    let given = tables::table(line, at);
-    if !tokens::ends(line, given.next) {
+pub fn read(numbers: &[usize], bytes: &[u8]) -> bool {
+    if numbers.len() != 0 {
         return false;
     }
+    let given = tables::judged(bytes);
     if !given.accepted {
         print::refused(given.refusal);
         return true;

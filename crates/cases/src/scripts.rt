@@ -1,92 +1,61 @@
 // `region TIMERS STEP STEP ..`: operations on a region, from the start region on, and tests of it. A step is a letter and a number.
 ghost use Prim.Native.Nat.{_≤_, _<_};
+ghost use lib.ListN.{length};
 ghost use Rattle.regions.specs.Held.{mostTimers, view, Valid, PriceRoom};
 ghost use Rattle.cases.specs.Step.{Follows};
 use crate::print;
 use crate::tokens;
-use crate::tokens::Number;
 use regions::Region;
-
-// More steps are not understood.
-const MOST_STEPS: usize = 256;
 
 // A delay is made only from a region within this ceiling.
 const MOST_WHOLE: u8 = 15;
 
-pub fn region(line: &[u8], at: usize) -> bool {
-    let timers = tokens::decimal(line, at);
-    let n = timers.value;
-    if n < 1 {
+pub fn region(numbers: &[usize], bytes: &[u8]) -> bool {
+    if bytes.len() != 0 {
         return false;
     }
-    if Region::MOST_TIMERS < n {
+    if numbers.len() == 0 {
         return false;
     }
-    run(line, timers.next, n)
+    if tokens::MOST_NUMBERS < numbers.len() {
+        return false;
+    }
+    let timers = numbers[0];
+    if timers < 1 {
+        return false;
+    }
+    if Region::MOST_TIMERS < timers {
+        return false;
+    }
+    run(numbers, timers)
 }
 
 // Prints the start region, then each step with what comes of it.
-fn run(line: &[u8], from: usize, timers: usize) -> bool
-    requires { ⌜ (1 ≤ timers) × (timers ≤ mostTimers) ⌝ }
+fn run(steps: &[usize], timers: usize) -> bool
+    requires { ⌜ (1 ≤ timers) × (timers ≤ mostTimers) × (length (now steps) ≤ 256) ⌝ }
 {
-    let mut at = from;
     let mut region = Region::start(timers);
     print::text(b"start");
     parts(region);
-    print::end_line();
-    for _ in 0..MOST_STEPS {
-        if tokens::ends(line, at) {
-            return true;
-        }
-        let step = step_at(line, at);
-        at = step.next;
-        if at == tokens::NOWHERE {
+    for i in 1..steps.len() {
+        let amount = steps[i] % tokens::LETTER;
+        if 255 < amount {
             return false;
         }
-        region = stepped(region, step.operation, step.amount);
-        show(region, step.operation, step.amount);
+        let operation = letter(steps[i]);
+        region = stepped(region, operation, amount as u8);
+        show(region, operation, amount as u8);
     }
-    tokens::ends(line, at)
+    true
 }
 
-struct Step {
-    operation: u8,
-    amount: u8,
-    next: usize,
-}
-
-fn step_at(line: &[u8], at: usize) -> Step {
-    let from = tokens::start(line, at);
-    if line.len() <= from {
-        return no_step();
+// The letter of a step.
+fn letter(step: usize) -> u8 {
+    let code = step / tokens::LETTER;
+    if 255 < code {
+        return 0;
     }
-    let operation = line[from];
-    let amount = amount_at(line, from + 1, operation);
-    if 255 < amount.value {
-        return no_step();
-    }
-    Step {
-        operation,
-        amount: amount.value as u8,
-        next: amount.next,
-    }
-}
-
-fn no_step() -> Step {
-    Step {
-        operation: 0,
-        amount: 0,
-        next: tokens::NOWHERE,
-    }
-}
-
-// A condition byte is in hexadecimal, as document 01 writes it, and every other number in decimal. No other letter is understood.
-fn amount_at(line: &[u8], at: usize, operation: u8) -> Number {
-    match operation {
-        b'x' | b'y' | b'z' => tokens::byte(line, at),
-        b'd' | b'l' | b'r' | b'a' | b'c' | b'w' => tokens::digits(line, at),
-        _ => tokens::no_number(),
-    }
+    code as u8
 }
 
 // The region after an operation. A test changes nothing.
@@ -120,19 +89,21 @@ fn delayed(region: Region, rate: u32) -> Region
 fn show(region: Region, operation: u8, amount: u8)
     requires { ⌜ Valid region ⌝ }
 {
+    print::letter(operation);
     match operation {
-        b'd' => print::field(b"delay ", amount as usize),
-        b'l' => print::field(b"linger ", amount as usize),
-        b'r' => print::field(b"reset ", amount as usize),
-        b'a' => print::field(b"resets ", amount as usize),
-        b'c' => print::field(b"charge ", amount as usize),
-        _ => return test(region, operation, amount),
+        b'd' | b'l' | b'r' | b'a' | b'c' => {
+            print::number(amount as usize);
+            parts(region);
+        }
+        b'x' => condition(region, 0, amount),
+        b'y' => condition(region, 1, amount),
+        b'z' => condition(region, 2, amount),
+        b'w' => ceilings(region, amount),
+        _ => print::line(b": not understood"),
     }
-    parts(region);
-    print::end_line();
 }
 
-// The whole parts, the groups and the prices.
+// The whole parts, the groups and the prices, and the end of their line.
 pub fn parts(region: Region) {
     let n = region.timers as usize;
     let whole = region.whole;
@@ -141,6 +112,7 @@ pub fn parts(region: Region) {
     list(b": whole", widened(whole), n);
     list(b" groups", widened(group), n);
     list(b" prices", prices, region.top as usize + 1);
+    print::end_line();
 }
 
 fn widened(entries: [u8; Region::MOST_TIMERS]) -> [u32; Region::MOST_CORNERS] {
@@ -158,24 +130,11 @@ fn list(name: &[u8], entries: [u32; Region::MOST_CORNERS], n: usize) {
     }
 }
 
-fn test(region: Region, operation: u8, amount: u8)
-    requires { ⌜ Valid region ⌝ }
-{
-    match operation {
-        b'x' => condition(region, 0, amount),
-        b'y' => condition(region, 1, amount),
-        b'z' => condition(region, 2, amount),
-        _ => ceilings(region, amount),
-    }
-}
-
 // Whether the region meets a condition.
 fn condition(region: Region, timer: usize, byte: u8)
     requires { ⌜ Valid region × (timer < mostTimers) ⌝ }
 {
-    print::text(b"condition ");
     print::hex(byte);
-    print::field(b" on timer ", timer);
     verdict(region.meets(timer, byte));
 }
 
@@ -183,7 +142,7 @@ fn condition(region: Region, timer: usize, byte: u8)
 fn ceilings(region: Region, ceiling: u8)
     requires { ⌜ Valid region ⌝ }
 {
-    print::field(b"ceilings ", ceiling as usize);
+    print::number(ceiling as usize);
     verdict(region.within([ceiling; Region::MOST_TIMERS]));
 }
 

@@ -1,29 +1,28 @@
-// `search WORDS TABLE`: the words that a search leaves, and the words after clearing. The words lent hold 7 before.
+// `search WORDS: TABLE`: the words that a search leaves, and the words after clearing. The words lent hold 7 before.
 ghost use Prim.Native.Nat.{_≤_};
 ghost use Rattle.reader.specs.Held.{IsTable};
 use crate::print;
 use crate::tables;
-use crate::tokens;
 use reader::Table;
 use search::Searched;
 
 const MOST_WORDS: usize = 6000;
 
-pub fn search(line: &[u8], at: usize) -> bool {
-    let lent = tokens::decimal(line, at);
-    let given = tables::table(line, lent.next);
-    if !tokens::ends(line, given.next) {
+pub fn search(numbers: &[usize], bytes: &[u8]) -> bool {
+    if numbers.len() != 1 {
         return false;
     }
-    if MOST_WORDS < lent.value {
+    let lent = numbers[0];
+    if MOST_WORDS < lent {
         return false;
     }
+    let given = tables::judged(bytes);
     if !given.accepted {
         print::refused(given.refusal);
         return true;
     }
     let table = given.table;
-    searched(table, lent.value);
+    searched(table, lent);
     true
 }
 

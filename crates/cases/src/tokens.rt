@@ -1,50 +1,33 @@
-// The fields of a line: numbers in decimal and bytes in hexadecimal, with blanks before them. Each is sought from a place on, and says at which
-// place it ends.
+// The parts of a line: the name of the call, numbers, and the bytes of a table behind a colon.
+ghost use Prim.Native.Nat.{_≤_};
 ghost use Rattle.io.specs.Counts.{Counts};
 
-// The place behind a field that is not there, which no line has: no field is found from there on, and no line ends there.
+// The place behind a field that is not there, which no line has.
 pub const NOWHERE: usize = 0xFFFF_FFFF_FFFF_FFFF;
 
-// Larger numbers are not understood.
-const MOST_NUMBER: usize = 999_999_999;
+// A longer name would not fit.
+const MOST_WORD: usize = 0x00FF_FFFF_FFFF_FFFF;
 
-// Bytes past these are not understood.
+// A larger number is not understood.
+const MOST_NUMBER: usize = 999_999;
+
+// A number with a letter before it is kept as the letter's code so many times, and the number.
+pub const LETTER: usize = 1_000_000;
+
+// Numbers and bytes past these are not understood.
+pub const MOST_NUMBERS: usize = 256;
+
 pub const MOST_BYTES: usize = 4096;
 
-// A number that is not there has a value outside of every range.
-pub struct Number {
+pub struct Field {
     pub value: usize,
     pub next: usize,
 }
 
-// So many bytes, at the start of where they were put.
-pub struct Bytes {
+// So many fields, at the start of where they were put.
+pub struct Taken {
     pub count: usize,
     pub next: usize,
-}
-
-pub fn begins(line: &[u8], word: &[u8]) -> bool {
-    if line.len() < word.len() {
-        return false;
-    }
-    for i in 0..word.len() {
-        if line[i] != word[i] {
-            return false;
-        }
-    }
-    true
-}
-
-// Whether nothing is left but blanks and a comment.
-pub fn ends(line: &[u8], at: usize) -> bool {
-    if line.len() < at {
-        return false;
-    }
-    let rest = past(line, at, b' ');
-    if line.len() <= rest {
-        return true;
-    }
-    line[rest] == b'#'
 }
 
 // The first place from a place on where the byte is not x.
@@ -59,121 +42,143 @@ pub fn past(bytes: &[u8], from: usize, x: u8) -> usize {
     at
 }
 
-// Where the next field begins: behind a blank or more.
-pub fn start(line: &[u8], at: usize) -> usize {
-    if line.len() <= at {
-        return NOWHERE;
-    }
-    if line[at] != b' ' {
-        return NOWHERE;
-    }
-    past(line, at, b' ')
-}
-
-// A number in decimal.
-pub fn decimal(line: &[u8], at: usize) -> Number {
-    digits(line, start(line, at))
-}
-
-// The number whose digits begin at a place.
-pub fn digits(line: &[u8], from: usize) -> Number {
-    let mut at = from;
+// The name of the call: its letters as the digits of a number in base 256.
+pub fn word(line: &[u8]) -> Field {
+    let mut at = 0;
     let mut value = 0;
     while at < line.len() {
-        let d = digit(line[at]);
-        if 9 < d {
+        if line[at] < b'a' {
             break;
         }
-        if MOST_NUMBER / 10 < value {
-            return no_number();
+        if MOST_WORD < value {
+            break;
         }
-        value = 10 * value + d;
+        value = 256 * value + wide(line[at]);
         at += 1;
     }
-    if at == from {
-        return no_number();
-    }
-    Number { value, next: at }
+    Field { value, next: at }
 }
 
-pub fn no_number() -> Number {
-    Number {
+fn wide(byte: u8) -> usize
+    ensures { λ r. ⌜ r ≤ 255 ⌝ }
+{
+    byte as usize
+}
+
+// The numbers from a place on, in decimal.
+pub fn numbers(line: &[u8], from: usize, out: &mut [usize]) -> Taken
+    ensures { λ r. ⌜ Counts (r .count) (now (out .exit)) ⌝ }
+{
+    let mut next = from;
+    let mut count = 0;
+    while count < out.len() {
+        let n = lettered(line, past(line, next, b' '));
+        if n.next == NOWHERE {
+            break;
+        }
+        out[count] = n.value;
+        next = n.next;
+        count += 1;
+    }
+    Taken { count, next }
+}
+
+// A number, with a letter before it or none. Behind x, y and z it is in hexadecimal.
+fn lettered(line: &[u8], at: usize) -> Field {
+    if line.len() <= at {
+        return nothing();
+    }
+    let letter = line[at];
+    match letter {
+        b'x' | b'y' | b'z' => marked(letter, digits(line, at + 1, 15)),
+        b'a'..=b'w' => marked(letter, digits(line, at + 1, 9)),
+        _ => digits(line, at, 9),
+    }
+}
+
+fn marked(letter: u8, number: Field) -> Field {
+    if MOST_NUMBER < number.value {
+        return nothing();
+    }
+    Field {
+        value: LETTER * wide(letter) + number.value,
+        next: number.next,
+    }
+}
+
+fn nothing() -> Field {
+    Field {
         value: NOWHERE,
         next: NOWHERE,
     }
 }
 
-// Bytes in hexadecimal, put at the start of out: two digits each, and a `_` where one is to be set apart from those before. `-` is no bytes.
-pub fn hexadecimal(line: &[u8], at: usize, out: &mut [u8]) -> Bytes
-    ensures { λ r. ⌜ Counts (r .count) (now (out .exit)) ⌝ }
-{
-    let from = start(line, at);
-    let none = after(line, from, b'-');
-    if none != from {
-        return Bytes {
-            count: 0,
-            next: none,
-        };
-    }
-    let mut next = from;
-    let mut count = 0;
-    while count < out.len() {
-        let b = byte(line, after(line, next, b'_'));
-        if 255 < b.value {
+// The number whose digits, the highest of which is given, begin at a place.
+fn digits(line: &[u8], from: usize, last: usize) -> Field {
+    let mut at = from;
+    let mut value = 0;
+    while at < line.len() {
+        let d = digit(line[at]);
+        if last < d {
             break;
         }
-        out[count] = b.value as u8;
-        next = b.next;
-        count += 1;
+        if MOST_NUMBER < value {
+            break;
+        }
+        value = shifted(value, last) + d;
+        at += 1;
     }
-    if count == 0 {
-        return Bytes {
-            count,
-            next: NOWHERE,
-        };
+    if at == from {
+        return nothing();
     }
-    Bytes { count, next }
+    Field { value, next: at }
 }
 
-// The place behind the byte, if it stands at the place.
-fn after(line: &[u8], at: usize, byte: u8) -> usize {
-    if line.len() <= at {
-        return at;
-    }
-    if line[at] == byte {
-        return at + 1;
-    }
-    at
-}
-
-// The byte whose two digits begin at a place.
-pub fn byte(line: &[u8], at: usize) -> Number {
-    if line.len() < 2 {
-        return no_number();
-    }
-    if line.len() - 2 < at {
-        return no_number();
-    }
-    let high = digit(line[at]);
-    let low = digit(line[at + 1]);
-    if 15 < high {
-        return no_number();
-    }
-    if 15 < low {
-        return no_number();
-    }
-    Number {
-        value: 16 * high + low,
-        next: at + 2,
-    }
+// The value, with room for one digit more.
+fn shifted(value: usize, last: usize) -> usize
+    requires { ⌜ value ≤ 999999 ⌝ }
+    ensures { λ r. ⌜ r ≤ 15999984 ⌝ }
+{
+    if last == 9 { 10 * value } else { 16 * value }
 }
 
 // The value of a digit, and 16 of what is none.
-fn digit(byte: u8) -> usize {
+fn digit(byte: u8) -> usize
+    ensures { λ r. ⌜ r ≤ 16 ⌝ }
+{
     match byte {
         b'0'..=b'9' => (byte - b'0') as usize,
         b'a'..=b'f' => (byte - b'a') as usize + 10,
-        b'A'..=b'F' => (byte - b'A') as usize + 10,
         _ => 16,
     }
+}
+
+// Where the bytes of a table begin: behind a colon. A line may also end there.
+pub fn table(line: &[u8], from: usize) -> usize {
+    let at = past(line, from, b' ');
+    if line.len() <= at {
+        return at;
+    }
+    if line[at] == b':' {
+        return at + 1;
+    }
+    NOWHERE
+}
+
+// The bytes from a place on, in hexadecimal.
+pub fn bytes(line: &[u8], from: usize, out: &mut [u8]) -> Taken
+    ensures { λ r. ⌜ Counts (r .count) (now (out .exit)) ⌝ }
+{
+    let mut next = from;
+    let mut count = 0;
+    while count < out.len() {
+        let byte = digits(line, past(line, next, b' '), 15);
+        if 255 < byte.value {
+            break;
+        }
+        out[count] = byte.value as u8;
+        next = byte.next;
+        count += 1;
+    }
+    Taken { count, next }
 }

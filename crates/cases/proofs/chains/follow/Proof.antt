@@ -9,16 +9,16 @@ use Rattle.cases.proofs.chains.follow.Statement.{statement}
 use Rattle.cases.proofs.chains.follow.Tie as tie
 
 abbrev Inv-loop : tie.InvT-loop
-Inv-loop table words line from ceilings at₀ place₀ i₀ t13 t14 at place i = (i ≤ 256) × Stands table i place
+Inv-loop table words steps ceilings place₀ i₀ t10 t11 i-end place i = (i ≤ i-end) × Stands table i place
 
 abbrev μ-loop : tie.MeasureT-loop
-μ-loop table words line from ceilings at₀ place₀ i₀ t13 t14 at place i = 256 - i
+μ-loop table words steps ceilings place₀ i₀ t10 t11 i-end place i = i-end - i
 
 -- The chain begins.
 begun : (c : tie.After-start Inv-loop μ-loop) → Stands (c .before .before .before .before .args .table) 0 (c .start .result)
 begun c =
     let start = c .before .before .before .before in
-    stands-start (start .args .table) (start .pre .is-table) (c .start .result) (c .start .ensures)
+    stands-start (start .args .table) (start .pre .0 .is-table) (c .start .result) (c .start .ensures)
 
 -- Where a turn of the loop comes from.
 abbrev origin : tie.At-loop Inv-loop μ-loop → tie.Start Inv-loop μ-loop
@@ -26,18 +26,18 @@ origin c = c .before .before .before .before .before .before .before .before
 
 -- Where the step of a turn leads.
 stepped :
-    (c : tie.Else3 Inv-loop μ-loop)
-    → (let loop = c .before .before .before .before .before .before .before .before .before .before .before .before in
+    (c : tie.Else2 Inv-loop μ-loop)
+    → (let loop = c .before .before .before .before .before .before .before .before in
     Stands (origin loop .args .table) (loop .loop .i + 1) (c .before .before .next-place .result .place))
 stepped c =
-    let loop = c .before .before .before .before .before .before .before .before .before .before .before .before in
+    let loop = c .before .before .before .before .before .before .before .before in
     let start = origin loop in
     let made = c .before .before .next-place in
-    stands-step (start .args .table) (start .pre .is-table) (loop .loop .place) (loop .loop .i) _ (made .result) (loop .loop .inv .1) (made .ensures)
-    (not-false _ (c .if3 .left))
+    stands-step (start .args .table) (start .pre .0 .is-table) (loop .loop .place) (loop .loop .i) _ (made .result) (loop .loop .inv .1) (made .ensures)
+    (not-false _ (c .if2 .left))
 
 start-requires : tie.Need-start-requires Inv-loop μ-loop
-start-requires c κs = c .before .before .before .pre .is-table
+start-requires c κs = c .before .before .before .pre .0 .is-table
 
 slice-aggregate-text : tie.Need-slice-aggregate-text Inv-loop μ-loop
 slice-aggregate-text c = refl
@@ -50,40 +50,36 @@ show-requires c κs =
     let begins = c .before .before in
     let start = begins .before .before .before .before in
     let t = start .args .table in
-    ((t, stands-words t (start .args .words .now) (start .pre) (begins .start .result) 0 (begun begins)), omega arith)
+    ((t, stands-words t (start .args .words .now) (start .pre .0) (begins .start .result) 0 (begun begins)), omega arith)
 
 loop-holds : tie.Need-loop-holds Inv-loop μ-loop
 loop-holds c = (omega arith, begun (c .before .before .before))
 
-ends-requires : tie.Need-ends-requires Inv-loop μ-loop
-ends-requires c κs = tt
+mul-step : tie.Need-mul-step Inv-loop μ-loop
+mul-step c = omega arith
+
+shared-slice-read-step : tie.Need-shared-slice-read-step Inv-loop μ-loop
+shared-slice-read-step c = omega arith
 
 returns : tie.Need-returns Inv-loop μ-loop
 returns c = tt
 
-decimal-requires : tie.Need-decimal-requires Inv-loop μ-loop
-decimal-requires c κs = tt
-
-returns-2 : tie.Need-returns-2 Inv-loop μ-loop
-returns-2 c = tt
-
-cast-byte : tie.Need-cast-byte Inv-loop μ-loop
-cast-byte c = omega arith
-
 slice-aggregate-field : tie.Need-slice-aggregate-field Inv-loop μ-loop
 slice-aggregate-field c = refl
-
-cast-field : tie.Need-cast-field Inv-loop μ-loop
-cast-field c = omega arith
 
 field-requires : tie.Need-field-requires Inv-loop μ-loop
 field-requires c κs = tt
 
+cast-next-place : tie.Need-cast-next-place Inv-loop μ-loop
+cast-next-place c = omega arith
+
 next-place-requires : tie.Need-next-place-requires Inv-loop μ-loop
 next-place-requires c κs =
-    let loop = c .before .before .before .before .before .before .before .before .before in
+    let turn = c .before .before .before .before in
+    let loop = turn .before in
     let start = origin loop in
-    stands-ready (start .args .table) (start .pre .is-table) (loop .loop .place) (loop .loop .i) (loop .loop .inv .1) (omega arith)
+    stands-ready (start .args .table) (start .pre .0 .is-table) (loop .loop .place) (loop .loop .i) (loop .loop .inv .1)
+    (omega (arith, turn .loop-test .taken, start .pre .1))
 
 slice-aggregate-line : tie.Need-slice-aggregate-line Inv-loop μ-loop
 slice-aggregate-line c = refl
@@ -91,8 +87,8 @@ slice-aggregate-line c = refl
 line-requires : tie.Need-line-requires Inv-loop μ-loop
 line-requires c κs = tt
 
-returns-3 : tie.Need-returns-3 Inv-loop μ-loop
-returns-3 c = tt
+returns-2 : tie.Need-returns-2 Inv-loop μ-loop
+returns-2 c = tt
 
 add-show : tie.Need-add-show Inv-loop μ-loop
 add-show c = omega arith
@@ -100,15 +96,19 @@ add-show c = omega arith
 show-requires-2 : tie.Need-show-requires-2 Inv-loop μ-loop
 show-requires-2 c κs =
     let made = c .before in
-    let turn = made .before .before .before .before .before .before .before .before .before .before .before in
+    let turn = made .before .before .before .before .before .before .before in
     let loop = turn .before in
     let start = origin loop in
     let t = start .args .table in
-    let place = made .before .before .next-place .result .place in
-    ((t, stands-words t (start .args .words .now) (start .pre) place (loop .loop .i + 1) (stepped made)), omega (arith, turn .loop-test .taken))
+    let place = made .before .before .next-place .result .place in (
+      (t, stands-words t (start .args .words .now) (start .pre .0) place (loop .loop .i + 1) (stepped made)),
+      omega (arith, turn .loop-test .taken, start .pre .1),
+    )
 
 add-i : tie.Need-add-i Inv-loop μ-loop
-add-i c = omega arith
+add-i c =
+    let turn = c .before .before .before .before .before .before .before .before .before in
+    omega (arith, turn .loop-test .taken, origin (turn .before) .pre .1)
 
 loop-less : tie.Need-loop-less Inv-loop μ-loop
 loop-less c = omega arith
@@ -116,11 +116,8 @@ loop-less c = omega arith
 loop-again : tie.Need-loop-again Inv-loop μ-loop
 loop-again c = (omega arith, stepped (c .before .before))
 
-ends-requires-2 : tie.Need-ends-requires-2 Inv-loop μ-loop
-ends-requires-2 c κs = tt
-
-returns-4 : tie.Need-returns-4 Inv-loop μ-loop
-returns-4 c = tt
+returns-3 : tie.Need-returns-3 Inv-loop μ-loop
+returns-3 c = tt
 
 pub follow-spec : {M : Type 1} → statement M
 follow-spec =
@@ -133,22 +130,19 @@ follow-spec =
     text-requires
     show-requires
     loop-holds
-    ends-requires
+    mul-step
+    shared-slice-read-step
     returns
-    decimal-requires
-    returns-2
-    cast-byte
     slice-aggregate-field
-    cast-field
     field-requires
+    cast-next-place
     next-place-requires
     slice-aggregate-line
     line-requires
-    returns-3
+    returns-2
     add-show
     show-requires-2
     add-i
     loop-less
     loop-again
-    ends-requires-2
-    returns-4)
+    returns-3)

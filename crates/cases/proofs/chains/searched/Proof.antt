@@ -32,8 +32,10 @@ follow-requires c κs =
     let found = told .before .before .before in
     let start = found .before .before .before in
     let t = start .args .table in
-    let many : length (found .search .last .1 .1 .0) ≡ 6000 = search needs in
-    subst (HasWords t) (sym many) (words-lent t (start .pre) 6000 _ (sym (found .search .ensures .0) ∙ told .enum-told .given .1))
+    let many : length (found .search .last .1 .1 .0) ≡ 6000 = search needs in (
+      subst (HasWords t) (sym many) (words-lent t (start .pre .0) 6000 _ (sym (found .search .ensures .0) ∙ told .enum-told .given .1)),
+      start .pre .1,
+    )
 
 returns : tie.Need-returns
 returns c = search needs

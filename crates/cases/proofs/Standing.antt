@@ -1,7 +1,7 @@
 -- What a chain keeps for its next step, and that a search that answers with a number of nodes had words for them.
 -- Assumes nothing.
 use mathlib.Core.Path.{_≡_, refl, sym, ap, subst}
-use mathlib.Core.Bool.{true, true≢false}
+use mathlib.Core.Bool.{true}
 use mathlib.Core.List.{List}
 use mathlib.Core.Option.{Option, none, some}
 use Prim.Native.Nat.{ℕ, zero, suc, _+_, _*_, _≤_}
@@ -18,10 +18,10 @@ use Rattle.search.specs.declared.places.Place.{Place as PlaceHeld}
 use Rattle.search.specs.declared.places.Stepped.{Stepped}
 use Rattle.search.specs.Regions.{automatonOf}
 use Rattle.search.specs.Outcome.{answered}
-use Rattle.search.specs.Places.{packPlace, viewPlace, packStep, PlaceAt, StepAt, WordsAt}
+use Rattle.search.specs.Places.{packPlace, viewPlace, packStep, PlaceAt, WordsAt}
 use Rattle.search.specs.Laws.Answers.{answer-fits}
 use Rattle.search.specs.Laws.Chains.{PricesBelow, start-at, step-at, step-prices, prices-room}
-use Rattle.cases.specs.Step.{HasWords}
+use Rattle.cases.specs.Step.{HasWords, CanStep}
 
 -- The struct holds a place of the table's graph, whose prices are at most the greatest rate or price for each of the n steps made.
 pub record Stands (t : Table) (n : ℕ) (s : PlaceHeld) : Type 0 where
@@ -41,9 +41,7 @@ module _ (t : Table) (h : IsTable t) where
       subst (Stands t 0) (sym e) (record { held = o .0; below = subst (PricesBelow 0) (sym (o .1)) (begin-prices (automatonOf t)) })
 
   -- A step can be made, with the arrays of the table.
-  pub stands-ready :
-      (s : PlaceHeld) (n : ℕ) → Stands t n s → n ≤ 5
-      → StepAt t s (t .moves) (t .ceilings) (t .rates) (t .invariants) (t .sources) (t .targets) (t .prices) (t .guards) (t .resets)
+  pub stands-ready : (s : PlaceHeld) (n : ℕ) → Stands t n s → n ≤ 256 → CanStep t s
   stands-ready s n k few = record {
     is-table = h;
     moves-are = refl;
@@ -69,7 +67,7 @@ module _ (t : Table) (h : IsTable t) where
     where
       go :
           (o : Option Place) → step (automatonOf t) byte (viewPlace s) ≡ o → r ≡ packStep s o → r .allowed ≡ true → Stands t (n + 1) (r .place)
-      go none q e allowed = absurd (true≢false cc)
+      go none q e allowed = absurd (let z : _≡_ {A = ℕ} 0 1 = cc in omega arith)
       go (some p) q e allowed =
           let o = step-at t h s (k .held) byte p q in
           let prices : PricesBelow (mostPrice * (n + 1)) p =

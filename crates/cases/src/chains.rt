@@ -1,73 +1,96 @@
-// Chains of T by the search's places, and what the words of a search say of each place.
+// `chain STEP STEP ..: TABLE`: the places of a chain, and what the words of a search say of each.
 ghost use Prim.Native.Nat.{_≤_};
+ghost use mathlib.Core.Path.{_≡_};
 ghost use lib.ListN.{length};
-ghost use Rattle.search.specs.Places.{StepReady, IsStep, WordsReady};
-ghost use Rattle.cases.specs.Step.{HasWords};
+ghost use Rattle.reader.specs.Held.{IsTable};
+ghost use Rattle.search.specs.Places.{StepReady, IsStep, WordsReady, packStep, viewPlace};
+ghost use Rattle.search.specs.Regions.{automatonOf};
+ghost use Rattle.semantics.specs.Chain.{step as Chain·step};
+ghost use Rattle.cases.specs.Step.{HasWords, CanStep};
 use crate::print;
 use crate::scripts;
+use crate::tables;
+use crate::tokens;
 use reader::Table;
-use reader::Verdict;
 use regions::Region;
 use search::Searched;
 use search::places::Place;
 use search::places::Stepped;
 
-// The route of T is 0 64 64 64 1. Linger leads to a place that does not stand, and move 1 is not allowed there.
-pub fn run() {
-    of_t(b"\x03\x01\x02\x02\x02\x01\x03\x01\x01\x00\x01\x00\x01\x05\x03\x01\x02\x01\x51");
+const MOST_WORDS: usize = 6000;
+
+pub fn chain(steps: &[usize], bytes: &[u8]) -> bool {
+    if tokens::MOST_NUMBERS < steps.len() {
+        return false;
+    }
+    let given = tables::judged(bytes);
+    if !given.accepted {
+        print::refused(given.refusal);
+        return true;
+    }
+    let table = given.table;
+    searched(table, steps)
 }
 
-fn of_t(bytes: &[u8]) {
-    let r = reader::read(bytes);
-    let verdict = r.verdict;
-    let Verdict::Accepted = verdict else {
-        return;
-    };
-    let table = r.table;
-    let mut words = [0u32; 54];
+fn searched(table: Table, steps: &[usize]) -> bool
+    requires { ⌜ IsTable table × (length (now steps) ≤ 256) ⌝ }
+{
+    let mut words = [0u32; MOST_WORDS];
     let goal = table.goal;
     let answer = search::search(table, goal, &mut words);
-    let Searched::Nodes(_) = answer else {
-        return;
-    };
-    print::text(b"chain of T's route\n");
-    follow(table, &words, b"\x00\x40\x40\x40\x01");
-    print::text(b"chain of T, linger and move 1 at the start\n");
-    follow(table, &words, b"\x41\x01");
+    match answer {
+        Searched::Refused(n) => {
+            print::refused(n);
+            true
+        }
+        Searched::Nodes(_) => follow(table, &words, steps),
+    }
 }
 
 // The start and the places after the steps, as far as the steps are allowed.
-fn follow(table: Table, words: &[u32], route: &[u8])
-    requires { ⌜ HasWords table (length (now words)) × (length (now route) ≤ 5) ⌝ }
+fn follow(table: Table, words: &[u32], steps: &[usize]) -> bool
+    requires { ⌜ HasWords table (length (now words)) × (length (now steps) ≤ 256) ⌝ }
 {
     let ceilings = table.ceilings;
-    let steps = route.len();
     let mut place = Place::start(table);
-    print::text(b"  start");
+    print::text(b"start");
     show(words, place, ceilings, 0);
-    for i in 0..steps {
-        let byte = route[i];
-        print::field(b"  step ", byte as usize);
-        let stepped = step(
-            place,
-            byte,
-            table.moves,
-            ceilings,
-            &table.rates,
-            &table.invariants,
-            &table.sources,
-            &table.targets,
-            &table.prices,
-            &table.guards,
-            &table.resets,
-        );
+    for i in 0..steps.len() {
+        let step = steps[i];
+        if 255 < step {
+            return false;
+        }
+        print::field(b"step ", step);
+        let stepped = next_place(table, place, step as u8);
         if !stepped.allowed {
-            print::text(b": not allowed\n");
-            return;
+            print::line(b": not allowed");
+            return true;
         }
         place = stepped.place;
         show(words, place, ceilings, i + 1);
     }
+    true
+}
+
+// A step in the table's graph.
+fn next_place(table: Table, place: Place, byte: u8) -> Stepped
+    requires { ⌜ CanStep table place ⌝ }
+    ensures { λ r. ⌜ r ≡ packStep place (Chain·step (automatonOf table) byte (viewPlace place)) ⌝ }
+{
+    let ceilings = table.ceilings;
+    step(
+        place,
+        byte,
+        table.moves,
+        ceilings,
+        &table.rates,
+        &table.invariants,
+        &table.sources,
+        &table.targets,
+        &table.prices,
+        &table.guards,
+        &table.resets,
+    )
 }
 
 // A step with the arrays lent at one lifetime, as a table that is held lends them.
@@ -108,15 +131,13 @@ fn step<'a>(
 
 // The place, and whether it stands by the words after so many steps.
 fn show(words: &[u32], place: Place, ceilings: [u8; Region::MOST_TIMERS], steps: usize)
-    requires { ⌜ WordsReady place ceilings (now words) × (steps ≤ 5) ⌝ }
+    requires { ⌜ WordsReady place ceilings (now words) × (steps ≤ 256) ⌝ }
 {
-    print::field(b", mode ", place.mode);
+    if place.stands(ceilings, words, steps as u32) {
+        print::field(b", stands in mode ", place.mode);
+    } else {
+        print::field(b", does not stand in mode ", place.mode);
+    }
     let region = place.region;
     scripts::parts(region);
-    if place.stands(ceilings, words, steps as u32) {
-        print::field(b", stands after ", steps);
-    } else {
-        print::field(b", does not stand after ", steps);
-    }
-    print::end_line();
 }

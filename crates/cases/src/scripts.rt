@@ -1,55 +1,74 @@
-// Scripts of operations on a region. A script is a list of pairs of bytes, an operation and its amount: d RATE delay, l RATE linger,
-// r TIMER reset, a RESETS reset of several, c PRICE charge. The others are tests: x, y or z CONDITION of a condition byte on timer 0, 1 or
-// 2, and w CEILING of one ceiling for every timer.
+// `region TIMERS STEP STEP ..`: operations on a region, from the start region on, and tests of it. A step is a letter and a number.
 ghost use Prim.Native.Nat.{_≤_, _<_};
-ghost use mathlib.Core.Path.{_≡_};
+ghost use lib.ListN.{length};
 ghost use Rattle.regions.specs.Held.{mostTimers, view, Valid, PriceRoom};
 ghost use Rattle.cases.specs.Step.{Follows};
 use crate::print;
+use crate::tokens;
 use regions::Region;
-
-// Pairs past these are not run.
-const MOST_STEPS: usize = 32;
 
 // A delay is made only from a region within this ceiling.
 const MOST_WHOLE: u8 = 15;
 
-// Prints the start region, then each step with what comes of it.
-pub fn run(name: &[u8], timers: usize, script: &[u8])
-    requires { ⌜ (1 ≤ timers) × (timers ≤ mostTimers) ⌝ }
-{
-    print::text(name);
-    print::end_line();
-    let mut region = Region::start(timers);
-    show(b"  start ", timers, region);
-    for i in 0..MOST_STEPS {
-        let at = 2 * i;
-        if script.len() <= at + 1 {
-            return;
-        }
-        region = step(region, script[at], script[at + 1]);
+pub fn region(numbers: &[usize], bytes: &[u8]) -> bool {
+    if bytes.len() != 0 {
+        return false;
     }
+    if numbers.len() == 0 {
+        return false;
+    }
+    if tokens::MOST_NUMBERS < numbers.len() {
+        return false;
+    }
+    let timers = numbers[0];
+    if timers < 1 {
+        return false;
+    }
+    if Region::MOST_TIMERS < timers {
+        return false;
+    }
+    run(numbers, timers)
 }
 
-// One step, printed. A test changes nothing, and neither does a byte that names no operation.
-fn step(region: Region, operation: u8, amount: u8) -> Region
+// Prints the start region, then each step with what comes of it.
+fn run(steps: &[usize], timers: usize) -> bool
+    requires { ⌜ (1 ≤ timers) × (timers ≤ mostTimers) × (length (now steps) ≤ 256) ⌝ }
+{
+    let mut region = Region::start(timers);
+    print::text(b"start");
+    parts(region);
+    for i in 1..steps.len() {
+        let amount = steps[i] % tokens::LETTER;
+        if 255 < amount {
+            return false;
+        }
+        let operation = letter(steps[i]);
+        region = stepped(region, operation, amount as u8);
+        show(region, operation, amount as u8);
+    }
+    true
+}
+
+// The letter of a step.
+fn letter(step: usize) -> u8 {
+    let code = step / tokens::LETTER;
+    if 255 < code {
+        return 0;
+    }
+    code as u8
+}
+
+// The region after an operation. A test changes nothing.
+fn stepped(region: Region, operation: u8, amount: u8) -> Region
     requires { ⌜ Valid region × PriceRoom amount (view region) ⌝ }
     ensures { λ r. ⌜ Follows amount region r ⌝ }
 {
     match operation {
-        b'd' => shown(b"  delay ", amount, delayed(region, amount as u32)),
-        b'l' => shown(b"  linger ", amount, region.linger(amount as u32)),
-        b'r' => shown(
-            b"  reset ",
-            amount,
-            region.reset(amount as usize % Region::MOST_TIMERS),
-        ),
-        b'a' => shown(b"  resets ", amount, region.reset_all(amount)),
-        b'c' => shown(b"  charge ", amount, region.charge(amount as u32)),
-        b'x' => condition(region, 0, amount),
-        b'y' => condition(region, 1, amount),
-        b'z' => condition(region, 2, amount),
-        b'w' => ceilings(region, amount),
+        b'd' => delayed(region, amount as u32),
+        b'l' => region.linger(amount as u32),
+        b'r' => region.reset(amount as usize % Region::MOST_TIMERS),
+        b'a' => region.reset_all(amount),
+        b'c' => region.charge(amount as u32),
         _ => region,
     }
 }
@@ -66,21 +85,25 @@ fn delayed(region: Region, rate: u32) -> Region
     }
 }
 
-// The region itself, after it was printed.
-fn shown(operation: &[u8], amount: u8, region: Region) -> Region
-    ensures { λ r. ⌜ r ≡ region ⌝ }
+// The line of a step: what the operation led to, or what the test says.
+fn show(region: Region, operation: u8, amount: u8)
+    requires { ⌜ Valid region ⌝ }
 {
-    show(operation, amount as usize, region);
-    region
+    print::letter(operation);
+    match operation {
+        b'd' | b'l' | b'r' | b'a' | b'c' => {
+            print::number(amount as usize);
+            parts(region);
+        }
+        b'x' => condition(region, 0, amount),
+        b'y' => condition(region, 1, amount),
+        b'z' => condition(region, 2, amount),
+        b'w' => ceilings(region, amount),
+        _ => print::line(b": not understood"),
+    }
 }
 
-fn show(operation: &[u8], amount: usize, region: Region) {
-    print::field(operation, amount);
-    parts(region);
-    print::end_line();
-}
-
-// The whole parts, the groups and the prices.
+// The whole parts, the groups and the prices, and the end of their line.
 pub fn parts(region: Region) {
     let n = region.timers as usize;
     let whole = region.whole;
@@ -89,6 +112,7 @@ pub fn parts(region: Region) {
     list(b": whole", widened(whole), n);
     list(b" groups", widened(group), n);
     list(b" prices", prices, region.top as usize + 1);
+    print::end_line();
 }
 
 fn widened(entries: [u8; Region::MOST_TIMERS]) -> [u32; Region::MOST_CORNERS] {
@@ -107,31 +131,25 @@ fn list(name: &[u8], entries: [u32; Region::MOST_CORNERS], n: usize) {
 }
 
 // Whether the region meets a condition.
-fn condition(region: Region, timer: usize, byte: u8) -> Region
+fn condition(region: Region, timer: usize, byte: u8)
     requires { ⌜ Valid region × (timer < mostTimers) ⌝ }
-    ensures { λ r. ⌜ r ≡ region ⌝ }
 {
-    print::text(b"  condition ");
     print::hex(byte);
-    print::field(b" on timer ", timer);
     verdict(region.meets(timer, byte));
-    region
 }
 
 // Whether the region is within one ceiling for every timer.
-fn ceilings(region: Region, ceiling: u8) -> Region
+fn ceilings(region: Region, ceiling: u8)
     requires { ⌜ Valid region ⌝ }
-    ensures { λ r. ⌜ r ≡ region ⌝ }
 {
-    print::field(b"  ceilings ", ceiling as usize);
+    print::number(ceiling as usize);
     verdict(region.within([ceiling; Region::MOST_TIMERS]));
-    region
 }
 
 fn verdict(met: bool) {
     if met {
-        print::text(b": met\n");
+        print::line(b": met");
     } else {
-        print::text(b": not met\n");
+        print::line(b": not met");
     }
 }

@@ -1,77 +1,51 @@
-// Searches: the words that they leave, and the words after clearing. The words lent hold 7 before.
+// `search WORDS: TABLE`: the words that a search leaves, and the words after clearing. The words lent hold 7 before.
 ghost use Prim.Native.Nat.{_≤_};
 ghost use Rattle.reader.specs.Held.{IsTable};
 use crate::print;
+use crate::tables;
 use reader::Table;
-use reader::Verdict;
 use search::Searched;
 
-const MOST_WORDS: usize = 56;
+const MOST_WORDS: usize = 6000;
 
-pub fn run() {
-    of_t(MOST_WORDS);
-    of_t(53);
-    search_case(
-        b"search of T, last byte 52",
-        b"\x03\x01\x02\x02\x02\x01\x03\x01\x01\x00\x01\x00\x01\x05\x03\x01\x02\x01\x52",
-        54,
-    );
-    search_case(
-        b"16 modes, ceilings 6, 3, 1",
-        b"\x10\x03\x00\x00\x06\x03\x01\x00\x00\x00\x00\x00\x00\x00\x00\x00\x00\x00\x00\x00\x00\x00\x00",
-        2,
-    );
-}
-
-// T, with so many words lent.
-fn of_t(lent: usize)
-    requires { ⌜ lent ≤ 56 ⌝ }
-{
-    search_case(
-        b"search of T",
-        b"\x03\x01\x02\x02\x02\x01\x03\x01\x01\x00\x01\x00\x01\x05\x03\x01\x02\x01\x51",
-        lent,
-    );
-}
-
-fn search_case(name: &[u8], bytes: &[u8], lent: usize)
-    requires { ⌜ lent ≤ 56 ⌝ }
-{
-    print::text(name);
-    print::field(b", words ", lent);
-    let r = reader::read(bytes);
-    let verdict = r.verdict;
-    match verdict {
-        Verdict::Refused(n) => {
-            print::field(b": refused ", n as usize);
-            print::end_line();
-        }
-        Verdict::Accepted => {
-            let table = r.table;
-            searched(table, lent);
-        }
+pub fn search(numbers: &[usize], bytes: &[u8]) -> bool {
+    if numbers.len() != 1 {
+        return false;
     }
+    let lent = numbers[0];
+    if MOST_WORDS < lent {
+        return false;
+    }
+    let given = tables::judged(bytes);
+    if !given.accepted {
+        print::refused(given.refusal);
+        return true;
+    }
+    let table = given.table;
+    searched(table, lent);
+    true
 }
 
 fn searched(table: Table, lent: usize)
-    requires { ⌜ IsTable table × (lent ≤ 56) ⌝ }
+    requires { ⌜ IsTable table × (lent ≤ 6000) ⌝ }
 {
     let mut words = [7u32; MOST_WORDS];
     let part = &mut words[..lent];
     let goal = table.goal;
-    let answer = search::search(table, goal, part);
+    answered(search::search(table, goal, part));
+    list(b"words", part);
+    search::clear(table, part);
+    list(b"cleared", part);
+}
+
+fn answered(answer: Searched) {
     match answer {
-        Searched::Refused(n) => {
-            print::field(b": refused ", n as usize);
-        }
+        Searched::Refused(n) => print::refused(n),
         Searched::Nodes(n) => {
-            print::field(b": nodes ", n);
+            print::field(b"nodes ", n);
+            print::end_line();
         }
     }
-    print::end_line();
-    list(b"  words", part);
-    search::clear(table, part);
-    list(b"  cleared", part);
 }
 
 fn list(name: &[u8], words: &[u32]) {

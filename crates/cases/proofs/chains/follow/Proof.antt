@@ -1,130 +1,123 @@
 -- `cases::chains::follow` meets its contract. The prices are at most 255 for each step made.
 -- Assumes nothing.
-use Prim.Native.Nat.{_+_, _-_, _≤_, _<_}
+use mathlib.Core.Path.{refl}
+use Prim.Native.Nat.{_+_, _-_, _≤_}
 use native.Mathlib.Omega.{arith}
-use borrow.Author.Needs.{needs}
 use borrow.Author.Tests.{not-false}
-use Rattle.search.specs.Places.{StepAt}
 use Rattle.cases.proofs.Standing.{Stands, stands-start, stands-ready, stands-step, stands-words}
 use Rattle.cases.proofs.chains.follow.Statement.{statement}
 use Rattle.cases.proofs.chains.follow.Tie as tie
 
 abbrev Inv-loop : tie.InvT-loop
-Inv-loop words route table ceilings steps place₀ i₀ t12 t13 place i = (i ≤ steps) × Stands table i place
+Inv-loop table words steps ceilings place₀ i₀ t10 t11 i-end place i = (i ≤ i-end) × Stands table i place
 
 abbrev μ-loop : tie.MeasureT-loop
-μ-loop words route table ceilings steps place₀ i₀ t12 t13 place i = steps - i
+μ-loop table words steps ceilings place₀ i₀ t10 t11 i-end place i = i-end - i
 
 -- The chain begins.
-begun : (c : tie.After-start Inv-loop μ-loop) → Stands (c .before .before .before .before .args .t1) 0 (c .start .result)
+begun : (c : tie.After-start Inv-loop μ-loop) → Stands (c .before .before .before .before .args .table) 0 (c .start .result)
 begun c =
     let start = c .before .before .before .before in
-    stands-start (start .args .t1) (start .pre .0 .is-table) (c .start .result) (c .start .ensures)
+    stands-start (start .args .table) (start .pre .0 .is-table) (c .start .result) (c .start .ensures)
 
--- Where a turn of the loop comes from, and the turn in which a step is made.
+-- Where a turn of the loop comes from.
 abbrev origin : tie.At-loop Inv-loop μ-loop → tie.Start Inv-loop μ-loop
 origin c = c .before .before .before .before .before .before .before .before
 
-abbrev turn : tie.After-step-arg14 Inv-loop μ-loop → tie.In-loop Inv-loop μ-loop
-turn c =
-    c .before .before .before .before .before .before .before .before .before .before .before .before .before .before .before .before .before .before
-
--- Fewer than 5 steps were made before a turn.
-few : (c : tie.In-loop Inv-loop μ-loop) → c .before .loop .i < 5
-few c = omega (arith, c .loop-test .taken, origin (c .before) .pre .1)
-
--- A step can be made in a turn.
-ready :
-    (c : tie.In-loop Inv-loop μ-loop)
-    → (let t = origin (c .before) .args .t1 in
-    StepAt t (c .before .loop .place) (t .moves) (t .ceilings) (t .rates) (t .invariants) (t .sources) (t .targets) (t .prices) (t .guards)
-    (t .resets))
-ready c =
-    let start = origin (c .before) in
-    stands-ready (start .args .t1) (start .pre .0 .is-table) (c .before .loop .place) (c .before .loop .i) (c .before .loop .inv .1)
-    (omega (arith, few c))
-
--- Where it leads.
+-- Where the step of a turn leads.
 stepped :
-    (c : tie.Else1 Inv-loop μ-loop)
-    → (let loop = turn (c .before .before .before) .before in
-    Stands (origin loop .args .t1) (loop .loop .i + 1) (c .before .before .step .result .place))
+    (c : tie.Else2 Inv-loop μ-loop)
+    → (let loop = c .before .before .before .before .before .before .before .before in
+    Stands (origin loop .args .table) (loop .loop .i + 1) (c .before .before .next-place .result .place))
 stepped c =
-    let in-loop = turn (c .before .before .before) in
-    let loop = in-loop .before in
+    let loop = c .before .before .before .before .before .before .before .before in
     let start = origin loop in
-    let made = c .before .before .step in
-    stands-step (start .args .t1) (start .pre .0 .is-table) (loop .loop .place) (loop .loop .i) _ (made .result) (loop .loop .inv .1)
-    (made .ensures (start .args .t1) (ready in-loop)) (not-false _ (c .if1 .left))
+    let made = c .before .before .next-place in
+    stands-step (start .args .table) (start .pre .0 .is-table) (loop .loop .place) (loop .loop .i) _ (made .result) (loop .loop .inv .1) (made .ensures)
+    (not-false _ (c .if2 .left))
 
 start-requires : tie.Need-start-requires Inv-loop μ-loop
 start-requires c κs = c .before .before .before .pre .0 .is-table
 
 slice-aggregate-text : tie.Need-slice-aggregate-text Inv-loop μ-loop
-slice-aggregate-text c = search needs
+slice-aggregate-text c = refl
 
 text-requires : tie.Need-text-requires Inv-loop μ-loop
-text-requires c κs = search needs
+text-requires c κs = tt
 
 show-requires : tie.Need-show-requires Inv-loop μ-loop
 show-requires c κs =
     let begins = c .before .before in
     let start = begins .before .before .before .before in
-    let t = start .args .t1 in
+    let t = start .args .table in
     ((t, stands-words t (start .args .words .now) (start .pre .0) (begins .start .result) 0 (begun begins)), omega arith)
 
 loop-holds : tie.Need-loop-holds Inv-loop μ-loop
 loop-holds c = (omega arith, begun (c .before .before .before))
 
-shared-slice-read-byte : tie.Need-shared-slice-read-byte Inv-loop μ-loop
-shared-slice-read-byte c = omega arith
+mul-step : tie.Need-mul-step Inv-loop μ-loop
+mul-step c = omega arith
 
-slice-aggregate-field : tie.Need-slice-aggregate-field Inv-loop μ-loop
-slice-aggregate-field c = search needs
-
-cast-field : tie.Need-cast-field Inv-loop μ-loop
-cast-field c = omega (arith, c .before .shared-slice-known3 .given (c .before .before .before .loop .i))
-
-field-requires : tie.Need-field-requires Inv-loop μ-loop
-field-requires c κs = search needs
-
-step-requires : tie.Need-step-requires Inv-loop μ-loop
-step-requires c κs = let in-loop = turn c in (origin (in-loop .before) .args .t1, ready in-loop)
-
-slice-aggregate-text-2 : tie.Need-slice-aggregate-text-2 Inv-loop μ-loop
-slice-aggregate-text-2 c = search needs
-
-text-requires-2 : tie.Need-text-requires-2 Inv-loop μ-loop
-text-requires-2 c κs = search needs
+shared-slice-read-step : tie.Need-shared-slice-read-step Inv-loop μ-loop
+shared-slice-read-step c = omega arith
 
 returns : tie.Need-returns Inv-loop μ-loop
 returns c = tt
 
-add-show : tie.Need-add-show Inv-loop μ-loop
-add-show c = omega (arith, few (turn (c .before .before .before .before)))
+slice-aggregate-field : tie.Need-slice-aggregate-field Inv-loop μ-loop
+slice-aggregate-field c = refl
 
-show-requires-2 : tie.Need-show-requires-2 Inv-loop μ-loop
-show-requires-2 c κs =
-    let else1 = c .before in
-    let in-loop = turn (else1 .before .before .before) in
-    let loop = in-loop .before in
+field-requires : tie.Need-field-requires Inv-loop μ-loop
+field-requires c κs = tt
+
+cast-next-place : tie.Need-cast-next-place Inv-loop μ-loop
+cast-next-place c = omega arith
+
+next-place-requires : tie.Need-next-place-requires Inv-loop μ-loop
+next-place-requires c κs =
+    let turn = c .before .before .before .before in
+    let loop = turn .before in
     let start = origin loop in
-    let t = start .args .t1 in (
-      (t, stands-words t (start .args .words .now) (start .pre .0) (else1 .before .before .step .result .place) (loop .loop .i + 1) (stepped else1)),
-      omega (arith, few in-loop),
-    )
+    stands-ready (start .args .table) (start .pre .0 .is-table) (loop .loop .place) (loop .loop .i) (loop .loop .inv .1)
+    (omega (arith, turn .loop-test .taken, start .pre .1))
 
-add-i : tie.Need-add-i Inv-loop μ-loop
-add-i c = omega (arith, few (turn (c .before .before .before .before .before)))
+slice-aggregate-line : tie.Need-slice-aggregate-line Inv-loop μ-loop
+slice-aggregate-line c = refl
 
-loop-less : tie.Need-loop-less Inv-loop μ-loop
-loop-less c = omega (arith, turn (c .before .before .before .before .before) .loop-test .taken)
-
-loop-again : tie.Need-loop-again Inv-loop μ-loop
-loop-again c = (omega (arith, turn (c .before .before .before .before .before) .loop-test .taken), stepped (c .before .before))
+line-requires : tie.Need-line-requires Inv-loop μ-loop
+line-requires c κs = tt
 
 returns-2 : tie.Need-returns-2 Inv-loop μ-loop
 returns-2 c = tt
+
+add-show : tie.Need-add-show Inv-loop μ-loop
+add-show c = omega arith
+
+show-requires-2 : tie.Need-show-requires-2 Inv-loop μ-loop
+show-requires-2 c κs =
+    let made = c .before in
+    let turn = made .before .before .before .before .before .before .before in
+    let loop = turn .before in
+    let start = origin loop in
+    let t = start .args .table in
+    let place = made .before .before .next-place .result .place in (
+      (t, stands-words t (start .args .words .now) (start .pre .0) place (loop .loop .i + 1) (stepped made)),
+      omega (arith, turn .loop-test .taken, start .pre .1),
+    )
+
+add-i : tie.Need-add-i Inv-loop μ-loop
+add-i c =
+    let turn = c .before .before .before .before .before .before .before .before .before in
+    omega (arith, turn .loop-test .taken, origin (turn .before) .pre .1)
+
+loop-less : tie.Need-loop-less Inv-loop μ-loop
+loop-less c = omega arith
+
+loop-again : tie.Need-loop-again Inv-loop μ-loop
+loop-again c = (omega arith, stepped (c .before .before))
+
+returns-3 : tie.Need-returns-3 Inv-loop μ-loop
+returns-3 c = tt
 
 pub follow-spec : {M : Type 1} → statement M
 follow-spec =
@@ -137,17 +130,19 @@ follow-spec =
     text-requires
     show-requires
     loop-holds
-    shared-slice-read-byte
-    slice-aggregate-field
-    cast-field
-    field-requires
-    step-requires
-    slice-aggregate-text-2
-    text-requires-2
+    mul-step
+    shared-slice-read-step
     returns
+    slice-aggregate-field
+    field-requires
+    cast-next-place
+    next-place-requires
+    slice-aggregate-line
+    line-requires
+    returns-2
     add-show
     show-requires-2
     add-i
     loop-less
     loop-again
-    returns-2)
+    returns-3)

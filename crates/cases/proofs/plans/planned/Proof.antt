@@ -1,35 +1,32 @@
 -- `cases::plans::planned` meets its contract. The words and the route bytes lent are the first of those held.
 -- Assumes nothing.
 use mathlib.Core.Path.{sym}
+use Prim.Native.Nat.{ℕ}
+use native.Mathlib.Omega.{arith}
 use borrow.Author.Needs.{needs}
+use lib.ListN.{replicate, length-replicate}
 use lib.Seq.{length-take-le}
 use Rattle.cases.proofs.plans.planned.Statement.{statement}
 use Rattle.cases.proofs.plans.planned.Tie as tie
 
-slice-relend-prefix-plan : tie.Need-slice-relend-prefix-plan
-slice-relend-prefix-plan c = search needs
+array-borrow-prefix-words : tie.Need-array-borrow-prefix-words
+array-borrow-prefix-words c = search needs
 
 slice-aggregate-plan : tie.Need-slice-aggregate-plan
 slice-aggregate-plan c =
-    let start = c .before .before .before .before .before in
-    sym (length-take-le (start .args .lent) (start .args .words .now) (start .pre .0))
+    let start = c .before .before in
+    sym (length-take-le (start .args .lent) (replicate {A = ℕ} 129600 7) (omega (arith, length-replicate {A = ℕ} 129600 7, start .pre .0)))
 
-slice-relend-prefix-plan-2 : tie.Need-slice-relend-prefix-plan-2
-slice-relend-prefix-plan-2 c = search needs
+array-borrow-prefix-route : tie.Need-array-borrow-prefix-route
+array-borrow-prefix-route c = search needs
 
 slice-aggregate-plan-2 : tie.Need-slice-aggregate-plan-2
 slice-aggregate-plan-2 c =
-    let start = c .before .before .before .before .before .before in
-    sym (length-take-le (start .args .room) (start .args .route .now) (start .pre .1))
+    let start = c .before .before .before in
+    sym (length-take-le (start .args .room) (replicate {A = ℕ} 256 9) (omega (arith, length-replicate {A = ℕ} 256 9, start .pre .1)))
 
 plan-requires : tie.Need-plan-requires
 plan-requires c κs = search needs
-
-text-requires : tie.Need-text-requires
-text-requires c κs = search needs
-
-end-line-requires : tie.Need-end-line-requires
-end-line-requires c κs = search needs
 
 show-requires : tie.Need-show-requires
 show-requires c κs = search needs
@@ -37,23 +34,8 @@ show-requires c κs = search needs
 steps-requires : tie.Need-steps-requires
 steps-requires c κs = search needs
 
-words-are-requires : tie.Need-words-are-requires
-words-are-requires c κs = search needs
-
-words-are-requires-2 : tie.Need-words-are-requires-2
-words-are-requires-2 c κs = search needs
-
-bytes-are-requires : tie.Need-bytes-are-requires
-bytes-are-requires c κs = search needs
-
-said-requires : tie.Need-said-requires
-said-requires c κs = search needs
-
-same-length : tie.Need-same-length
-same-length c = search needs
-
-same-length-2 : tie.Need-same-length-2
-same-length-2 c = search needs
+told-requires : tie.Need-told-requires
+told-requires c κs = search needs
 
 returns : tie.Need-returns
 returns c = search needs
@@ -62,19 +44,12 @@ pub planned-spec : {M : Type 1} → statement M
 planned-spec =
     tie.close
     (tie.spec
-    slice-relend-prefix-plan
+    array-borrow-prefix-words
     slice-aggregate-plan
-    slice-relend-prefix-plan-2
+    array-borrow-prefix-route
     slice-aggregate-plan-2
     plan-requires
-    text-requires
-    end-line-requires
     show-requires
     steps-requires
-    words-are-requires
-    words-are-requires-2
-    bytes-are-requires
-    said-requires
-    same-length
-    same-length-2
+    told-requires
     returns)

@@ -1,6 +1,6 @@
 -- `cases::scripts::run` meets its contract. The prices have room for the steps that are left.
 -- Assumes nothing.
-use Prim.Native.Nat.{_+_, _-_, _*_, _≤_}
+use Prim.Native.Nat.{_+_, _-_, _*_}
 use mathlib.Core.Path.{refl, subst, sym}
 use native.Mathlib.Omega.{arith}
 use lib.Dec.{lit<}
@@ -11,56 +11,66 @@ use Rattle.cases.proofs.scripts.run.Statement.{statement}
 use Rattle.cases.proofs.scripts.run.Tie as tie
 
 abbrev Inv-loop : tie.InvT-loop
-Inv-loop name timers script region₀ i₀ region i = (i ≤ 32) × Valid region × PriceRoom (255 * (32 - i)) (view region)
+Inv-loop steps timers region₀ i₀ i-end region i = Valid region × PriceRoom (255 * (257 - i)) (view region)
 
 abbrev μ-loop : tie.MeasureT-loop
-μ-loop name timers script region₀ i₀ region i = 32 - i
-
-text-requires : tie.Need-text-requires Inv-loop μ-loop
-text-requires c κs = tt
-
-end-line-requires : tie.Need-end-line-requires Inv-loop μ-loop
-end-line-requires c κs = tt
+μ-loop steps timers region₀ i₀ i-end region i = i-end - i
 
 start-requires : tie.Need-start-requires Inv-loop μ-loop
 start-requires c κs = omega arith
 
-slice-aggregate-show : tie.Need-slice-aggregate-show Inv-loop μ-loop
-slice-aggregate-show c = refl
+slice-aggregate-text : tie.Need-slice-aggregate-text Inv-loop μ-loop
+slice-aggregate-text c = refl
 
-show-requires : tie.Need-show-requires Inv-loop μ-loop
-show-requires c κs = tt
+text-requires : tie.Need-text-requires Inv-loop μ-loop
+text-requires c κs = tt
+
+parts-requires : tie.Need-parts-requires Inv-loop μ-loop
+parts-requires c κs = tt
 
 loop-holds : tie.Need-loop-holds Inv-loop μ-loop
 loop-holds c =
-    let entry = c .before .before .before .before .before .before .before in
+    let begun = c .before .before .before in
+    let entry = begun .before .before in
     let n = entry .args .timers in
-    let g = start-gives n _ (entry .pre .0) (entry .pre .1) (c .before .before .start .ensures) in
-    (omega arith, g .valid, subst (PriceRoom (255 * 32)) (sym (g .seen)) (start-price-room n (255 * 32) (lit< tt)))
+    let g = start-gives n _ (entry .pre .0) (entry .pre .1) (begun .start .ensures) in
+    (g .valid, subst (PriceRoom (255 * 256)) (sym (g .seen)) (start-price-room n (255 * 256) (lit< tt)))
 
-mul-at : tie.Need-mul-at Inv-loop μ-loop
-mul-at c = omega arith
+mul-amount : tie.Need-mul-amount Inv-loop μ-loop
+mul-amount c = omega arith
 
-add-if1 : tie.Need-add-if1 Inv-loop μ-loop
-add-if1 c = omega arith
+shared-slice-read-amount : tie.Need-shared-slice-read-amount Inv-loop μ-loop
+shared-slice-read-amount c = omega arith
 
 returns : tie.Need-returns Inv-loop μ-loop
 returns c = tt
 
-shared-slice-read-step : tie.Need-shared-slice-read-step Inv-loop μ-loop
-shared-slice-read-step c = omega arith
+mul-letter : tie.Need-mul-letter Inv-loop μ-loop
+mul-letter c = omega arith
 
-add-step : tie.Need-add-step Inv-loop μ-loop
-add-step c = omega arith
+shared-slice-read-letter : tie.Need-shared-slice-read-letter Inv-loop μ-loop
+shared-slice-read-letter c = omega arith
 
-shared-slice-read-step-2 : tie.Need-shared-slice-read-step-2 Inv-loop μ-loop
-shared-slice-read-step-2 c = omega arith
+letter-requires : tie.Need-letter-requires Inv-loop μ-loop
+letter-requires c κs = tt
 
-step-requires : tie.Need-step-requires Inv-loop μ-loop
-step-requires c κs =
-    let turn = c .before .before .before .before .loop in
-    let i = turn .i in
-    (turn .inv .1, less-room (view (turn .region)) _ (255 * (32 - i)) (omega (arith, c .shared-slice-known4 .given (2 * i + 1))) (turn .inv .2))
+cast-stepped : tie.Need-cast-stepped Inv-loop μ-loop
+cast-stepped c = omega arith
+
+stepped-requires : tie.Need-stepped-requires Inv-loop μ-loop
+stepped-requires c κs =
+    let turn = c .before .before .before .before in
+    let loop = turn .before .loop in (
+      loop .inv .0,
+      less-room (view (loop .region)) _ (255 * (257 - loop .i))
+          (omega (arith, c .before .before .if1 .left, turn .loop-test .taken, turn .before .before .before .before .before .before .before .pre .2)) (loop .inv .1),
+    )
+
+cast-show : tie.Need-cast-show Inv-loop μ-loop
+cast-show c = omega arith
+
+show-requires : tie.Need-show-requires Inv-loop μ-loop
+show-requires c κs = c .stepped .ensures .valid
 
 add-i : tie.Need-add-i Inv-loop μ-loop
 add-i c = omega arith
@@ -70,13 +80,14 @@ loop-less c = omega arith
 
 loop-again : tie.Need-loop-again Inv-loop μ-loop
 loop-again c =
-    let turn = c .before .before .before .before .before .loop in
-    let i = turn .i in
-    let left = 255 * (32 - (i + 1)) in (
-      omega arith,
-      c .step .ensures .valid,
-      c .step .ensures .room left
-          (less-room (view (turn .region)) (_ + left) (255 * (32 - i)) (omega (arith, c .before .shared-slice-known4 .given (2 * i + 1))) (turn .inv .2)),
+    let stepped = c .before .stepped .ensures in
+    let turn = c .before .before .before .before .before .before in
+    let loop = turn .before .loop in
+    let left = 255 * (257 - (loop .i + 1)) in (
+      stepped .valid,
+      stepped .room left
+          (less-room (view (loop .region)) (_ + left) (255 * (257 - loop .i))
+          (omega (arith, c .before .before .before .before .if1 .left, turn .loop-test .taken, turn .before .before .before .before .before .before .before .pre .2)) (loop .inv .1)),
     )
 
 returns-2 : tie.Need-returns-2 Inv-loop μ-loop
@@ -88,19 +99,21 @@ run-spec =
     (tie.spec
     Inv-loop
     μ-loop
-    text-requires
-    end-line-requires
     start-requires
-    slice-aggregate-show
-    show-requires
+    slice-aggregate-text
+    text-requires
+    parts-requires
     loop-holds
-    mul-at
-    add-if1
+    mul-amount
+    shared-slice-read-amount
     returns
-    shared-slice-read-step
-    add-step
-    shared-slice-read-step-2
-    step-requires
+    mul-letter
+    shared-slice-read-letter
+    letter-requires
+    cast-stepped
+    stepped-requires
+    cast-show
+    show-requires
     add-i
     loop-less
     loop-again

@@ -4,7 +4,7 @@ use mathlib.Core.Path.{sym}
 use Prim.Native.Nat.{ℕ}
 use native.Mathlib.Omega.{arith}
 use borrow.Author.Needs.{needs}
-use lib.ListN.{replicate}
+use lib.ListN.{replicate, length-replicate}
 use lib.Seq.{length-take-le}
 use Rattle.cases.proofs.searches.searched.Statement.{statement}
 use Rattle.cases.proofs.searches.searched.Tie as tie
@@ -15,34 +15,14 @@ array-borrow-prefix-words c = search needs
 slice-aggregate-part : tie.Need-slice-aggregate-part
 slice-aggregate-part c =
     let start = c .before in
-    sym (length-take-le (start .args .lent) (replicate {A = ℕ} 56 7) (omega (arith, start .pre .1)))
+    let words = replicate {A = ℕ} 6000 7 in
+    sym (length-take-le (start .args .lent) words (omega (arith, length-replicate {A = ℕ} 6000 7, start .pre .1)))
 
 search-requires : tie.Need-search-requires
 search-requires c κs = search needs
 
-enum-known-answer : tie.Need-enum-known-answer
-enum-known-answer c = search needs
-
-slice-aggregate-field : tie.Need-slice-aggregate-field
-slice-aggregate-field c = search needs
-
-cast-field : tie.Need-cast-field
-cast-field c = search needs
-
-field-requires : tie.Need-field-requires
-field-requires c κs = search needs
-
-enum-known-answer-2 : tie.Need-enum-known-answer-2
-enum-known-answer-2 c = search needs
-
-slice-aggregate-field-2 : tie.Need-slice-aggregate-field-2
-slice-aggregate-field-2 c = search needs
-
-field-requires-2 : tie.Need-field-requires-2
-field-requires-2 c κs = search needs
-
-end-line-requires : tie.Need-end-line-requires
-end-line-requires c κs = search needs
+answered-requires : tie.Need-answered-requires
+answered-requires c κs = search needs
 
 slice-aggregate-list : tie.Need-slice-aggregate-list
 slice-aggregate-list c = search needs
@@ -69,14 +49,7 @@ searched-spec =
     array-borrow-prefix-words
     slice-aggregate-part
     search-requires
-    enum-known-answer
-    slice-aggregate-field
-    cast-field
-    field-requires
-    enum-known-answer-2
-    slice-aggregate-field-2
-    field-requires-2
-    end-line-requires
+    answered-requires
     slice-aggregate-list
     list-requires
     clear-requires

@@ -1,0 +1,29 @@
+-- `cases::readings::read` meets its contract.
+-- Assumes nothing.
+use borrow.Author.Needs.{needs}
+use borrow.Author.Tests.{not-false}
+use Rattle.cases.proofs.readings.read.Statement.{statement}
+use Rattle.cases.proofs.readings.read.Tie as tie
+
+returns : tie.Need-returns
+returns c = search needs
+
+judged-requires : tie.Need-judged-requires
+judged-requires c κs = search needs
+
+refused-requires : tie.Need-refused-requires
+refused-requires c κs = search needs
+
+returns-2 : tie.Need-returns-2
+returns-2 c = search needs
+
+fields-requires : tie.Need-fields-requires
+fields-requires c κs = c .before .before .before .judged .ensures (not-false _ (c .before .if2 .left))
+
+returns-3 : tie.Need-returns-3
+returns-3 c = search needs
+
+pub read-spec : {M : Type 1} → statement M
+read-spec =
+    tie.close
+    (tie.spec returns judged-requires refused-requires returns-2 fields-requires returns-3)

@@ -5,8 +5,10 @@ ghost use Rattle.search.specs.Places.{StepReady, IsStep, WordsReady};
 ghost use Rattle.cases.specs.Step.{HasWords};
 use crate::print;
 use crate::scripts;
-use reader::Table;
 use reader::Verdict;
+use reader::opened;
+use reader::opened::Table;
+use reader::table::TABLE;
 use regions::Region;
 use search::Searched;
 use search::places::Place;
@@ -18,12 +20,12 @@ pub fn run() {
 }
 
 fn of_t(bytes: &[u8]) {
-    let r = reader::read(bytes);
-    let verdict = r.verdict;
+    let mut held = [0u8; TABLE];
+    let verdict = reader::read(bytes, &mut held);
     let Verdict::Accepted = verdict else {
         return;
     };
-    let table = r.table;
+    let table = opened::opened(&held);
     let mut words = [0u32; 54];
     let goal = table.goal;
     let answer = search::search(table, goal, &mut words);

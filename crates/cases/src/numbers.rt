@@ -3,6 +3,8 @@ ghost use Prim.Native.Nat.{_≤_};
 ghost use Rattle.regions.specs.Held.{mostTimers};
 use crate::print;
 use reader::Verdict;
+use reader::opened;
+use reader::table::TABLE;
 use regions::Region;
 use regions::nodes::Nodes;
 
@@ -16,14 +18,14 @@ pub fn run() {
 // E of the table, if the bytes are accepted as one.
 fn nodes_of(name: &[u8], bytes: &[u8]) {
     print::text(name);
-    let r = reader::read(bytes);
-    let verdict = r.verdict;
+    let mut held = [0u8; TABLE];
+    let verdict = reader::read(bytes, &mut held);
     match verdict {
         Verdict::Refused(n) => {
             print::field(b": refused ", n as usize);
         }
         Verdict::Accepted => {
-            let table = r.table;
+            let table = opened::opened(&held);
             count(regions::nodes::node_count(table));
         }
     }

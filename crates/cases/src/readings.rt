@@ -1,6 +1,8 @@
 // The reader on document 01's refusals and tables, and on the ranges of a table's fields.
 use crate::print;
 use reader::Verdict;
+use reader::opened;
+use reader::table::TABLE;
 
 pub fn run() {
     refusals();
@@ -17,17 +19,18 @@ pub fn run() {
 // A reading: the refusal's number, or the counts and the goal.
 fn reading(name: &[u8], bytes: &[u8]) {
     print::text(name);
-    let r = reader::read(bytes);
-    let verdict = r.verdict;
+    let mut held = [0u8; TABLE];
+    let verdict = reader::read(bytes, &mut held);
     match verdict {
         Verdict::Refused(n) => {
             print::field(b": refused ", n as usize);
         }
         Verdict::Accepted => {
-            print::field(b": modes ", r.table.modes);
-            print::field(b" timers ", r.table.timers);
-            print::field(b" moves ", r.table.moves);
-            print::field(b" goal ", r.table.goal);
+            let table = opened::opened(&held);
+            print::field(b": modes ", table.modes);
+            print::field(b" timers ", table.timers);
+            print::field(b" moves ", table.moves);
+            print::field(b" goal ", table.goal);
         }
     }
     print::end_line();

@@ -1,9 +1,11 @@
 // Searches: the words that they leave, and the words after clearing. The words lent hold 7 before.
 ghost use Prim.Native.Nat.{_≤_};
-ghost use Rattle.reader.specs.Held.{IsTable};
+ghost use Rattle.reader.specs.Opened.{IsTable};
 use crate::print;
-use reader::Table;
 use reader::Verdict;
+use reader::opened;
+use reader::opened::Table;
+use reader::table::TABLE;
 use search::Searched;
 
 const MOST_WORDS: usize = 56;
@@ -39,15 +41,15 @@ fn search_case(name: &[u8], bytes: &[u8], lent: usize)
 {
     print::text(name);
     print::field(b", words ", lent);
-    let r = reader::read(bytes);
-    let verdict = r.verdict;
+    let mut held = [0u8; TABLE];
+    let verdict = reader::read(bytes, &mut held);
     match verdict {
         Verdict::Refused(n) => {
             print::field(b": refused ", n as usize);
             print::end_line();
         }
         Verdict::Accepted => {
-            let table = r.table;
+            let table = opened::opened(&held);
             searched(table, lent);
         }
     }

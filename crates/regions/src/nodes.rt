@@ -5,12 +5,12 @@ ghost use lib.ListN.{length, take};
 ghost use Rattle.semantics.specs.Corner.{cornerCount};
 ghost use Rattle.semantics.specs.Node.{cellCount, cellNumber, cellAt, nodeOf, nodeCount, nodeNumber, nodeAt};
 ghost use Rattle.reader.specs.Meaning.{automaton};
-ghost use Rattle.reader.specs.Held.{IsTable, fields};
+ghost use Rattle.reader.specs.Opened.{IsTable, fields};
 ghost use Rattle.regions.specs.Held.{mostTimers, view, Valid};
 ghost use Rattle.regions.specs.Nodes.{mostModes, mostCeiling, mostCells, mostCellNumber, CeilingsFew, IsFactor, Padded, bounded, packNode};
 use crate::CornerAt;
 use crate::Region;
-use reader::Table;
+use reader::opened::Table;
 
 // "E may be at most 65,536."
 pub const MOST_NODES: usize = 65536;

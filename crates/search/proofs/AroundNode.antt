@@ -16,8 +16,8 @@ use Rattle.semantics.specs.Nodes.Number.{nodeAt-node}
 use Rattle.semantics.specs.Bounds.Shapes.{shape-well-formed}
 use Rattle.semantics.specs.Answers.Places.{IsPlace, node-is-place, node-index, node-number}
 use Rattle.semantics.specs.Answers.Moving.{number-row}
-use Rattle.reader.specs.declared.Table.{Table}
-use Rattle.reader.specs.Theorems.Access.{counts, timer-count, table-proper, ceilings-are}
+use Rattle.reader.specs.declared.opened.Table.{Table}
+use Rattle.reader.specs.Theorems.Opened.{counts, timer-count, table-proper, ceilings-are}
 use Rattle.regions.specs.declared.Region.{Region}
 use Rattle.regions.specs.declared.nodes.NodeAt.{NodeAt}
 use Rattle.regions.specs.Held.{mostTimers, mostCorners, pad, pack, view, Valid, packCorner}

@@ -6,32 +6,39 @@ use borrow.Author.Needs.{needs}
 use lib.Dec.{lit≤}
 use lib.ListN.{length}
 use Rattle.reader.specs.Held.{IsTable}
+use Rattle.reader.specs.Opened.{IsTable as IsOpened}
 use Rattle.reader.specs.Theorems.Holding.{accepted-table}
+use Rattle.reader.specs.Theorems.Opened.{opened-table}
 use Rattle.cases.specs.Step.{HasWords}
 use Rattle.cases.proofs.Standing.{words-lent}
 use Rattle.cases.proofs.chains.of_t.Statement.{statement}
 use Rattle.cases.proofs.chains.of_t.Tie as tie
 
--- The bytes are accepted as a table.
-accepted : (c : tie.After-enum-told) → IsTable (c .before .before .read .result .table)
+-- The bytes that an acceptance left are a table.
+accepted : (c : tie.After-enum-told) → IsTable (c .before .before .read .last .1 .0)
 accepted c =
     let reading = c .before .before in
-    let known = reading .before in
-    accepted-table (known .before .args .bytes .now) (reading .read .result) (λ i. omega (arith, known .shared-slice-known .given i))
+    let known = reading .before .before in
+    accepted-table (known .before .args .bytes .now) (reading .read .last .1 .0) (reading .read .result) (λ i. omega (arith, known .shared-slice-known .given i))
     (reading .read .ensures) (c .enum-told .given .1)
+
+-- The table is opened.
+is-table : (c : tie.After-opened) → IsOpened (c .opened .result)
+is-table c =
+    let told = c .before .before in
+    opened-table (told .before .before .read .last .1 .0) (accepted told) (c .opened .result) (c .opened .ensures)
 
 -- Its nodes have their words.
 lent :
     (c : tie.After-enum-told3)
     → let found = c .before .before .before in
-    HasWords (found .before .before .before .before .before .read .result .table) (length (found .search .last .1 .1 .0))
+    HasWords (found .before .before .opened .result) (length (found .search .last .1 .1 .0))
 lent c =
     let found = c .before .before .before in
-    let t = found .before .before .before .before .before .read .result .table in
+    let o = found .before .before in
     let many : length (found .search .last .1 .1 .0) ≡ 54 = search needs in
-    let is-table = accepted (found .before .before .before) in
-    let answer = words-lent t is-table 54 (c .enum-told3 .given .0 .0) (sym (found .search .ensures .0) ∙ c .enum-told3 .given .1) in
-    subst (HasWords t) (sym many) answer
+    let answer = words-lent (o .opened .result) (is-table o) 54 (c .enum-told3 .given .0 .0) (sym (found .search .ensures .0) ∙ c .enum-told3 .given .1) in
+    subst (HasWords (o .opened .result)) (sym many) answer
 
 read-requires : tie.Need-read-requires
 read-requires c κs = search needs
@@ -45,11 +52,14 @@ enum-told-2 c = search needs
 returns : tie.Need-returns
 returns c = search needs
 
+opened-requires : tie.Need-opened-requires
+opened-requires c κs = accepted (c .before)
+
 slice-aggregate-search : tie.Need-slice-aggregate-search
 slice-aggregate-search c = search needs
 
 search-requires : tie.Need-search-requires
-search-requires c κs = accepted (c .before .before)
+search-requires c κs = is-table (c .before)
 
 enum-told-3 : tie.Need-enum-told-3
 enum-told-3 c = search needs
@@ -105,6 +115,7 @@ of-t-spec =
     enum-told
     enum-told-2
     returns
+    opened-requires
     slice-aggregate-search
     search-requires
     enum-told-3

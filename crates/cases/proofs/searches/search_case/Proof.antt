@@ -2,9 +2,19 @@
 -- Assumes nothing.
 use native.Mathlib.Omega.{arith}
 use borrow.Author.Needs.{needs}
+use Rattle.reader.specs.Held.{IsTable}
 use Rattle.reader.specs.Theorems.Holding.{accepted-table}
+use Rattle.reader.specs.Theorems.Opened.{opened-table}
 use Rattle.cases.proofs.searches.search_case.Statement.{statement}
 use Rattle.cases.proofs.searches.search_case.Tie as tie
+
+-- The bytes that an acceptance left are a table.
+accepted : (c : tie.After-enum-told) → IsTable (c .before .before .read .last .1 .0)
+accepted c =
+    let reading = c .before .before in
+    let known = reading .before .before .before .before .before in
+    accepted-table (known .before .before .args .bytes .now) (reading .read .last .1 .0) (reading .read .result) (λ i. omega (arith, known .shared-slice-known2 .given i))
+    (reading .read .ensures) (c .enum-told .given .1)
 
 text-requires : tie.Need-text-requires
 text-requires c κs = search needs
@@ -36,15 +46,15 @@ end-line-requires c κs = search needs
 enum-told : tie.Need-enum-told
 enum-told c = search needs
 
+opened-requires : tie.Need-opened-requires
+opened-requires c κs = accepted (c .before)
+
 searched-requires : tie.Need-searched-requires
 searched-requires c κs =
-    let reading = c .before .before .before in
-    let known = reading .before .before .before .before in
-    let start = known .before .before in (
-      accepted-table (start .args .bytes .now) (reading .read .result) (λ i. omega (arith, known .shared-slice-known2 .given i))
-          (reading .read .ensures) (c .before .enum-told .given .1),
-      start .pre,
-    )
+    let told = c .before .before in
+    let reading = told .before .before in
+    let start = reading .before .before .before .before .before .before .before in
+    (opened-table (reading .read .last .1 .0) (accepted told) (c .opened .result) (c .opened .ensures), start .pre)
 
 returns : tie.Need-returns
 returns c = search needs
@@ -66,6 +76,7 @@ search-case-spec =
     field-requires-2
     end-line-requires
     enum-told
+    opened-requires
     searched-requires
     returns
     returns-2)

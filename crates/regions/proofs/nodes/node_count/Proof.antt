@@ -4,8 +4,8 @@ use mathlib.Core.Path.{_≡_, ap₂, _∙_}
 use borrow.Author.Tests.{le-leb, lt-leb}
 use Rattle.semantics.specs.Node.{nodeCount}
 use Rattle.reader.specs.Meaning.{automaton}
-use Rattle.reader.specs.Held.{fields}
-use Rattle.reader.specs.Theorems.Access.{counts}
+use Rattle.reader.specs.Opened.{fields}
+use Rattle.reader.specs.Theorems.Opened.{counts}
 use Rattle.regions.specs.Laws.Nodes.{corners-few, table-few, table-nodes}
 use Rattle.regions.proofs.Cells.{product-few}
 use native.Mathlib.Omega.{arith}

@@ -5,7 +5,7 @@ use mathlib.Core.Path.{_≡_, refl}
 use Prim.Native.Nat.{ℕ, _+_, _*_, _-_, _≤_, _<_}
 use native.Mathlib.Omega.{arith}
 use borrow.Author.Needs.{needs}
-use Rattle.reader.specs.declared.Table.{Table}
+use Rattle.reader.specs.declared.opened.Table.{Table}
 use Rattle.search.specs.Regions.{RegionAround}
 use Rattle.search.specs.Spread.{ClassAt}
 use Rattle.search.proofs.ClassPass.{ClassTo, bound-read, class-done, class-skip, class-none, class-fits, class-room, handed-now, room-now, around-at, region-here, top-below, class-region}

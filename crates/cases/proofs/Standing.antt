@@ -10,9 +10,9 @@ use lib.ListN.{length}
 use Rattle.semantics.specs.Automaton.{Automaton}
 use Rattle.semantics.specs.Region.{start}
 use Rattle.semantics.specs.Chain.{Place, begin, step}
-use Rattle.reader.specs.declared.Table.{Table}
+use Rattle.reader.specs.declared.opened.Table.{Table}
 use Rattle.reader.specs.Fields.{mostPrice}
-use Rattle.reader.specs.Held.{IsTable}
+use Rattle.reader.specs.Opened.{IsTable}
 use Rattle.search.specs.declared.Searched.the-variants.{Nodes}
 use Rattle.search.specs.declared.places.Place.{Place as PlaceHeld}
 use Rattle.search.specs.declared.places.Stepped.{Stepped}

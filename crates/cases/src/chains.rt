@@ -2,7 +2,7 @@
 ghost use Prim.Native.Nat.{_≤_};
 ghost use mathlib.Core.Path.{_≡_};
 ghost use lib.ListN.{length};
-ghost use Rattle.reader.specs.Held.{IsTable};
+ghost use Rattle.reader.specs.Opened.{IsTable};
 ghost use Rattle.search.specs.Places.{StepReady, IsStep, WordsReady, packStep, viewPlace};
 ghost use Rattle.search.specs.Regions.{automatonOf};
 ghost use Rattle.semantics.specs.Chain.{step as Chain·step};

@@ -1,5 +1,5 @@
 // `read: TABLE`: what the reader says of the bytes, with the counts, the goal and E of a table.
-ghost use Rattle.reader.specs.Held.{IsTable};
+ghost use Rattle.reader.specs.Opened.{IsTable};
 use crate::print;
 use crate::tables;
 use reader::Table;

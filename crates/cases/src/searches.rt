@@ -1,6 +1,6 @@
 // `search WORDS: TABLE`: the words that a search leaves, and the words after clearing. The words lent hold 7 before.
 ghost use Prim.Native.Nat.{_≤_};
-ghost use Rattle.reader.specs.Held.{IsTable};
+ghost use Rattle.reader.specs.Opened.{IsTable};
 use crate::print;
 use crate::tables;
 use reader::Table;

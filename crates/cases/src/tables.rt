@@ -1,7 +1,7 @@
 // The table that the reader takes bytes for.
 ghost use mathlib.Core.Path.{_≡_};
 ghost use mathlib.Core.Bool.{true};
-ghost use Rattle.reader.specs.Held.{IsTable};
+ghost use Rattle.reader.specs.Opened.{IsTable};
 use reader::Table;
 use reader::Verdict;
 

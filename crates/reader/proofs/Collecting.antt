@@ -52,16 +52,15 @@ module _ {A : Type 0} (p : ℕ → Parser A) where
         let g : suc m ≡ count - length taken = omega arith in
         rw (e, g) (c .same)
 
-    pub collected-more : {taken : List A} {next next′ r : ℕ} {v : A} → Collected taken next → length taken < count → r ≡ 0 →
-        Gives bytes r next′ (λ a. v ≡ a) (run (p (first + length taken)) (drop next bytes)) → Collected (taken ++ v ∷ []) next′
-    collected-more {taken} {next} {next′} {r} {v} c h z (refuses n e) = absurd (omega arith)
-    collected-more {taken} {next} {next′} {r} {v} c h z (gives a y e f) =
+    pub collected-more : {taken : List A} {next next′ : ℕ} {v : A} → Collected taken next → length taken < count →
+        run (p (first + length taken)) (drop next bytes) ≡ took v (drop next′ bytes) → Collected (taken ++ v ∷ []) next′
+    collected-more {taken} {next} {next′} {v} c h e =
         let further : suc (first + length taken) ≡ first + length (taken ++ v ∷ []) = omega (arith, length-append taken (v ∷ [])) in
         let fewer : count - suc (length taken) ≡ count - length (taken ++ v ∷ []) = omega (arith, length-append taken (v ∷ [])) in
         record {
           same =
               step-count taken h (first + length taken) (count - suc (length taken)) refl refl next c
-              ∙ ap (after taken) (order-took (first + length taken) (count - suc (length taken)) (drop next bytes) (drop next′ bytes) v (rw f e))
+              ∙ ap (after taken) (order-took (first + length taken) (count - suc (length taken)) (drop next bytes) (drop next′ bytes) v e)
               ∙ after-after taken (v ∷ []) (run (inOrder p (suc (first + length taken)) (count - suc (length taken))) (drop next′ bytes))
               ∙ ap₂ (λ (i m : ℕ). after (taken ++ v ∷ []) (run (inOrder p i m) (drop next′ bytes))) further fewer;
         }
@@ -91,17 +90,19 @@ module _ {A : Type 0} (p : ℕ → Parser A) where
     pub gathered-none : {H : List A → Type 0} → H [] → Gathered H start 0
     gathered-none h = record { taken = []; many = refl; few = omega arith; collected = collected-none; hold = h }
 
-    pub gathered-more : {H H′ : List A → Type 0} {next next′ i r : ℕ} {v : A} → Gathered H next i → i < count → r ≡ 0 →
-        Gives bytes r next′ (λ a. v ≡ a) (run (p (first + i)) (drop next bytes)) →
-        ((l : List A) → length l ≡ i → H l → H′ (l ++ v ∷ [])) → Gathered H′ next′ (i + 1)
-    gathered-more {i = i} {v = v} g h z f k =
+    -- One turn more, with what it took.
+    pub gathered-more : {H H′ : List A → Type 0} {P : A → Type 0} {next next′ i r : ℕ} → Gathered H next i → i < count → r ≡ 0 →
+        Gives bytes r next′ P (run (p (first + i)) (drop next bytes)) →
+        ((a : A) (l : List A) → P a → H l → H′ (l ++ a ∷ [])) → Gathered H′ next′ (i + 1)
+    gathered-more g h z (refuses n e) k = absurd (omega arith)
+    gathered-more {i = i} g h z (gives a y e f) k =
         let same : first + i ≡ first + length (g .taken) = ap (λ (j : ℕ). first + j) (sym (g .many)) in
         record {
-          taken = g .taken ++ v ∷ [];
-          many = omega (arith, length-append (g .taken) (v ∷ []), g .many);
+          taken = g .taken ++ a ∷ [];
+          many = omega (arith, length-append (g .taken) (a ∷ []), g .many);
           few = omega arith;
-          collected = collected-more (g .collected) (omega (arith, g .many)) z (rw same at f);
-          hold = k (g .taken) (g .many) (g .hold);
+          collected = collected-more (g .collected) (omega (arith, g .many)) (rw same at e);
+          hold = k a (g .taken) f (g .hold);
         }
 
     pub gathered-refused : {H : List A → Type 0} {next next′ next″ i r : ℕ} {P : A → Type 0} {Q : List A → Type 0} → Gathered H next i → i < count → (r ≡ 0 → ⊥) →

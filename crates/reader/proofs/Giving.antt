@@ -3,7 +3,7 @@
 use Prim.Native.Nat.{ℕ, _+_, _/_, _%_, _^_, _≤_, _<_}
 use native.Mathlib.Nat.{div-one}
 use native.Mathlib.Omega.{arith}
-use mathlib.Core.Path.{_≡_, refl, sym, ap, _∙_}
+use mathlib.Core.Path.{_≡_, refl, sym, ap, subst, _∙_}
 use mathlib.Core.Bool.{true, cond, _&&_}
 use mathlib.Core.List.{List}
 use borrow.Author.Tests.{le-leb, lt-leb, eq-eqb, ne-eqb, le-ltb, lt-ltb}
@@ -12,13 +12,28 @@ use lib.ListN.{length, getD, drop}
 use Rattle.reader.specs.Parser.{Parser, done, refuse, _>>=_, Outcome, refused, took, run}
 use Rattle.reader.specs.Format.{within, amount, present, bitMap}
 use Rattle.reader.specs.Step.{Gives, refuses, gives}
-use Rattle.reader.specs.Theorems.Running.{run-bind, run-byte, run-none, andThen}
+use Rattle.reader.specs.Theorems.Running.{run-bind, run-byte, run-none, andThen, parts, took-same, took-rest}
+
+-- Two parts of which one is refused, in front of anything.
+module _ {A B C D : Type 0} (q : A → Parser B) (pair : A → B → C) (f : A → B → Parser D) where
+  second-refused : (r : ℕ) (a : A) (o : Outcome B) → andThen o (λ b. done (pair a b)) ≡ refused r → andThen o (f a) ≡ refused r
+  second-refused r a (refused n) e = let same : n ≡ r = cc in ap (λ (k : ℕ). refused k) same
+  second-refused r a (took b s) e = let z : _≡_ {A = ℕ} 0 1 = cc in absurd (omega arith)
+
+  either-refused : (r : ℕ) (o : Outcome A) → andThen o (λ a. q a >>= λ b. done (pair a b)) ≡ refused r → andThen o (λ a. q a >>= f a) ≡ refused r
+  either-refused r (refused n) e = let same : n ≡ r = cc in ap (λ (k : ℕ). refused k) same
+  either-refused r (took a s) e = run-bind (q a) (f a) s ∙ second-refused r a (run (q a) s) (sym (run-bind (q a) _ s) ∙ e)
 
 module _ {bytes : List ℕ} where
   -- Along an equation of outcomes.
   pub gives-same : {A : Type 0} {r n : ℕ} {P : A → Type 0} {o o′ : Outcome A} → o′ ≡ o → Gives bytes r n P o → Gives bytes r n P o′
   gives-same e (refuses z q) = refuses z (e ∙ q)
   gives-same e (gives a z q h) = gives a z (e ∙ q) h
+
+  -- What follows of the value.
+  pub gives-more : {A : Type 0} {r n : ℕ} {P Q : A → Type 0} {o : Outcome A} → Gives bytes r n P o → ((a : A) → P a → Q a) → Gives bytes r n Q o
+  gives-more (refuses z q) k = refuses z q
+  gives-more (gives a z q h) k = gives a z q (k a h)
 
   -- A part that is refused refuses the whole.
   pub part-refused : {A B : Type 0} {r n n′ : ℕ} {P : A → Type 0} {Q : B → Type 0} (p : Parser A) (f : A → Parser B) (s : List ℕ) →
@@ -38,10 +53,30 @@ module _ {bytes : List ℕ} where
   part-known p f s h g k = part-taken p f s h g (λ a q e. rw (sym e) k)
 
   -- The last part, whose value makes the whole's.
-  pub part-last : {A B : Type 0} {r n : ℕ} {v : A} (p : Parser A) (f : A → B) (s : List ℕ) →
-      Gives bytes r n (λ a. v ≡ a) (run p s) → Gives bytes r n (λ b. f v ≡ b) (run (p >>= λ a. done (f a)) s)
-  part-last p f s (refuses z q) = refuses z (run-bind p _ s ∙ ap (λ (o : Outcome _). andThen o (λ a. done (f a))) q)
-  part-last p f s (gives a z q e) = gives (f a) z (run-bind p _ s ∙ ap (λ (o : Outcome _). andThen o (λ a. done (f a))) q) (ap f e)
+  pub part-last : {A B : Type 0} {r n : ℕ} {P : A → Type 0} {Q : B → Type 0} (p : Parser A) (f : A → B) (s : List ℕ) →
+      Gives bytes r n P (run p s) → ((a : A) → run p s ≡ took a (drop n bytes) → P a → Q (f a)) → Gives bytes r n Q (run (p >>= λ a. done (f a)) s)
+  part-last p f s (refuses z q) k = refuses z (run-bind p _ s ∙ ap (λ (o : Outcome _). andThen o (λ a. done (f a))) q)
+  part-last p f s (gives a z q h) k = gives (f a) z (run-bind p _ s ∙ ap (λ (o : Outcome _). andThen o (λ a. done (f a))) q) (k a q h)
+
+  -- Two parts that were read at once, where the whole has them one after the other.
+  module _ {A B C D : Type 0} (p : Parser A) (q : A → Parser B) (pair : A → B → C) (f : A → B → Parser D) where
+    pub two-refused : {r n n′ : ℕ} {P : C → Type 0} {Q : D → Type 0} (s : List ℕ) → (r ≡ 0 → ⊥) →
+        Gives bytes r n P (run (p >>= λ a. q a >>= λ b. done (pair a b)) s) → Gives bytes r n′ Q (run (p >>= λ a. q a >>= f a) s)
+    two-refused {r} s h (refuses z e) = refuses z (run-bind p _ s ∙ either-refused q pair f r (run p s) (sym (run-bind p _ s) ∙ e))
+    two-refused s h (gives c z e k) = absurd (h z)
+
+    pub two-taken : {r n r′ n′ : ℕ} {P : C → Type 0} {Q : D → Type 0} (s : List ℕ) → r ≡ 0 →
+        Gives bytes r n P (run (p >>= λ a. q a >>= λ b. done (pair a b)) s) →
+        ((a : A) (b : B) → P (pair a b) → Gives bytes r′ n′ Q (run (f a b) (drop n bytes))) → Gives bytes r′ n′ Q (run (p >>= λ a. q a >>= f a) s)
+    two-taken s h (refuses z e) k = absurd (omega arith)
+    two-taken {n = n} {P = P} s h (gives c z e m) k =
+        let one = parts p _ s c (drop n bytes) e in
+        let two = parts (q (one .value)) _ (one .middle) c (drop n bytes) (one .second) in
+        let whole : run (p >>= λ a. q a >>= f a) s ≡ run (f (one .value) (two .value)) (two .middle) =
+        run-bind p _ s ∙ ap (λ (o : Outcome A). andThen o (λ a. q a >>= f a)) (one .first)
+        ∙ run-bind (q (one .value)) _ (one .middle) ∙ ap (λ (o : Outcome B). andThen o (f (one .value))) (two .first) in
+        gives-same (whole ∙ ap (run (f (one .value) (two .value))) (took-rest (two .second)))
+        (k (one .value) (two .value) (subst P (sym (took-same (two .second))) m))
 
 -- A byte that is wanted within a range is missing, too low, too high or right.
 module _ (bytes : List ℕ) (from number low high : ℕ) where

@@ -1,6 +1,7 @@
 pub mod Giving
 pub mod Collecting
-pub mod Padding
-pub mod Storing
+pub mod Writing
+pub mod Copying
 pub mod Whole
+pub mod Opening
 pub mod Zero

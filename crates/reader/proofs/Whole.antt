@@ -1,170 +1,187 @@
--- The whole table: what the parts give together.
+-- The whole table: what the parts write together.
 -- Assumes nothing.
-use Prim.Native.Nat.{ℕ, zero, suc, _≤_, _<_}
+use Prim.Native.Nat.{ℕ, zero, suc, _+_, _*_, _-_, _≤_, _<_}
+use native.Mathlib.Nat.{sub-zero}
 use native.Mathlib.Omega.{arith}
-use mathlib.Core.Path.{_≡_, refl, sym, ap, _∙_}
+use mathlib.Core.Path.{_≡_, refl, sym, ap, ap₂, _∙_}
 use mathlib.Core.Bool.{true, false}
-use mathlib.Core.List.{List, [], _∷_, map, append-assoc}
-use lib.ListN.{length, getD, take, drop, drop-of-length-le}
-use lib.Seq.{take-at, drop-cons}
+use mathlib.Core.List.{List, [], _∷_, _++_, map, append-assoc, append-nil}
+use lib.ListN.{length, getD, take, drop, replicate, length-append, length-replicate, replicate-append-replicate, drop-of-length-le}
+use lib.Seq.{sets, sets-eq, take-append-seam, drop-append-add, drop-append-le, drop-cons}
 use Rattle.semantics.specs.Condition.{holdAtZero}
 use Rattle.semantics.specs.Automaton.{startHolds}
 use Rattle.reader.specs.Parser.{inOrder, took, run}
-use Rattle.reader.specs.Fields.{ModeFields, Fields}
-use Rattle.reader.specs.Format.{within, modeRecord, moveRecord, header, table}
-use Rattle.reader.specs.Meaning.{conditionsFrom, modeOf, automaton}
-use Rattle.reader.specs.Read.{rejected, read}
-use Rattle.reader.specs.Held.{pad, flat, held, reading}
-use Rattle.reader.specs.Step.{Gives, refuses, gives, GivesHeader, GivesCeilings, GivesModes, GivesMoves, HoldModes, HoldMoves}
-use Rattle.reader.specs.declared.records.HeaderRead.{HeaderRead}
-use Rattle.reader.specs.declared.records.CeilingsRead.{CeilingsRead}
-use Rattle.reader.specs.declared.records.Modes.{Modes}
-use Rattle.reader.specs.declared.records.Moves.{Moves}
-use Rattle.reader.specs.declared.Table.{Table}
-use Rattle.reader.specs.declared.Reading.{Reading}
-use Rattle.reader.specs.declared.Verdict.the-variants.{Accepted}
-use Rattle.reader.specs.Theorems.Running.{parts, order-length, took-same}
-use Rattle.reader.proofs.Giving.{part-taken, part-known, part-refused}
-use Rattle.reader.proofs.Storing.{mode-six}
+use Rattle.reader.specs.Fields.{ModeFields, MoveFields, Fields}
+use Rattle.reader.specs.Format.{within, modeRecord, moveRecord, Header, header, table}
+use Rattle.reader.specs.Meaning.{conditionsFrom, automaton}
+use Rattle.reader.specs.Read.{read}
+use Rattle.reader.specs.Held.{pad, flat, modeBytes, moveBytes, held, Reading}
+use Rattle.reader.specs.Step.{Gives, refuses, gives, Wrote, Writes, HeaderWrote, WritesHeader, headerBytes, Contains, Judges, rejects, accepts}
+use Rattle.reader.specs.declared.records.Next.{Next}
+use Rattle.reader.specs.declared.Verdict.the-variants.{Accepted, Refused}
+use Rattle.reader.specs.Theorems.Exactly.{taken}
+use Rattle.reader.specs.Theorems.Accepts.{table-exactly}
+use Rattle.reader.specs.Theorems.Running.{order-length}
+use Rattle.reader.specs.Theorems.Holding.{length-pad, Shaped, layout-shaped, held-length, fields-shaped}
+use Rattle.reader.specs.Theorems.Access.{start-at}
+use Rattle.reader.proofs.Giving.{part-taken, part-refused, part-last}
 
--- The first mode's conditions are the first six entries of the array.
-first-six : (n : ℕ) (s rest : List ℕ) (ms : List ModeFields) (k : ℕ) → 0 < k → run (inOrder (λ i. modeRecord n) 0 k) s ≡ took ms rest →
-    take 6 (pad 96 (flat (map (λ m. m .conditions) ms))) ≡ getD ms 0 (record { rate = 0; conditions = [] }) .conditions
-unfolding inOrder
-first-six n s rest ms zero h e = absurd (omega arith)
-first-six n s rest ms (suc k) h e =
-    let a = parts (modeRecord n) _ s ms rest e in
-    let b = parts (inOrder (λ i. modeRecord n) 1 k) _ (a .middle) ms rest (a .second) in
-    let all : a .value ∷ b .value ≡ ms = took-same (b .second) in
-    let six = mode-six n s (a .middle) (a .value) (a .first) in
-    rw (← all) (ap (take 6) (append-assoc (a .value .conditions) _ _) ∙ take-at (a .value .conditions) _ 6 six)
+abbrev zeros : ℕ → List ℕ
+zeros n = replicate n 0
 
-first-mode : (ms : List ModeFields) →
-    holdAtZero (getD (map modeOf ms) 0 (record { rate = 0; conditions = [] }) .conditions)
-    ≡ holdAtZero (conditionsFrom 0 (getD ms 0 (record { rate = 0; conditions = [] }) .conditions))
-first-mode [] = refl
-first-mode (m ∷ ms) = refl
+drop-zeros : (k n : ℕ) → drop k (zeros n) ≡ zeros (n - k)
+drop-zeros zero n = ap zeros (sym (sub-zero n))
+drop-zeros (suc k) zero = let none : 0 ≡ 0 - suc k = omega arith in ap zeros none
+drop-zeros (suc k) (suc n) = let fewer : n - k ≡ suc n - suc k = omega arith in drop-zeros k n ∙ ap zeros fewer
 
--- The structs that the parts give hold the fields of the table.
-pub record Whole (h : HeaderRead) (c : CeilingsRead) (m : Modes) (e : Moves) (f : Fields) : Type 0 where
-  pub goal : h .goal ≡ f .goal
-  pub timers : h .timers ≡ length (f .ceilings)
-  pub modes : h .modes ≡ length (f .modes)
-  pub moves : h .moves ≡ length (f .moves)
-  pub ceilings-held : c .ceilings ≡ pad 3 (f .ceilings)
-  pub modes-held : HoldModes (m .rates) (m .invariants) (f .modes)
-  pub moves-held : HoldMoves (e .sources) (e .targets) (e .prices) (e .guards) (e .resets) (f .moves)
-  pub start : holdAtZero (conditionsFrom 0 (take 6 (m .invariants))) ≡ startHolds (automaton f)
+-- Bytes that are written where there was room for them.
+fill : (a xs b : List ℕ) (k n : ℕ) → length a ≡ k → length xs ≤ n → sets (a ++ (zeros n ++ b)) k xs ≡ a ++ (pad n xs ++ b)
+fill a xs b k n e h =
+    let room = zeros n ++ b in
+    let long : length xs ≤ length (zeros n) = omega (arith, length-replicate {A = ℕ} n 0) in
+    rw (← e)
+    (sets-eq xs (a ++ room) (length a) (omega (arith, length-append a room, length-append (zeros n) b))
+    ∙ ap₂ (λ (l m : List ℕ). (l ++ xs) ++ m) (take-append-seam a room)
+    (drop-append-add a room (length xs) ∙ drop-append-le (length xs) (zeros n) b long ∙ ap (λ (l : List ℕ). l ++ b) (drop-zeros (length xs) n))
+    ∙ append-assoc a xs _ ∙ ap (λ (l : List ℕ). a ++ l) (sym (append-assoc xs (zeros (n - length xs)) b)))
 
-module _ (bytes : List ℕ) (h : HeaderRead) (gh : GivesHeader bytes h) where
+-- A table of zeros by its parts.
+zero-parts : zeros 4 ++ (zeros 128 ++ zeros 768) ≡ zeros 900
+zero-parts = ap (λ (l : List ℕ). zeros 4 ++ l) (replicate-append-replicate 128 768 0) ∙ replicate-append-replicate 4 896 0
+
+-- The parts that were written one after another are the table.
+parts-held : (h : Header) (cs : List ℕ) (ms : List ModeFields) (es : List MoveFields) {t₀ t₁ t₂ t₃ t₄ : List ℕ} {n m e : ℕ} → n ≤ 3 → m ≤ 16 → e ≤ 64 →
+    t₀ ≡ zeros 904 → HeaderWrote t₀ t₁ h → Wrote n t₁ 4 t₂ cs → Wrote (8 * m) t₂ 8 t₃ (flat (map modeBytes ms)) →
+    Wrote (12 * e) t₃ 136 t₄ (flat (map moveBytes es)) → t₄ ≡ headerBytes h ++ (pad 4 cs ++ (pad 128 (flat (map modeBytes ms)) ++ pad 768 (flat (map moveBytes es))))
+parts-held h cs ms es {t₀} {t₁} {t₂} {t₃} {t₄} hn hm he z wh wc wm we =
+    let front = headerBytes h in
+    let mb = flat (map modeBytes ms) in
+    let eb = flat (map moveBytes es) in
+    let two = front ++ pad 4 cs in
+    let three = two ++ pad 128 mb in
+    let cl = length-pad 4 cs (omega (arith, wc .long)) in
+    let ml = length-pad 128 mb (omega (arith, wm .long)) in
+    let at-1 : t₁ ≡ front ++ (zeros 4 ++ (zeros 128 ++ zeros 768)) =
+    wh .is ∙ ap (λ (l : List ℕ). front ++ l) (ap (drop 4) z ∙ sym zero-parts) in
+    let at-2 : t₂ ≡ two ++ (zeros 128 ++ zeros 768) =
+    wc .is ∙ ap (λ (l : List ℕ). sets l 4 cs) at-1 ∙ fill front cs (zeros 128 ++ zeros 768) 4 4 refl (omega (arith, wc .long))
+    ∙ sym (append-assoc front (pad 4 cs) _) in
+    let at-3 : t₃ ≡ three ++ (zeros 768 ++ []) =
+    wm .is ∙ ap (λ (l : List ℕ). sets l 8 mb) at-2
+    ∙ fill two mb (zeros 768) 8 128 (omega (arith, length-append front (pad 4 cs), cl)) (omega (arith, wm .long))
+    ∙ sym (append-assoc two (pad 128 mb) _) ∙ ap (λ (l : List ℕ). three ++ l) (sym (append-nil (zeros 768))) in
+    we .is ∙ ap (λ (l : List ℕ). sets l 136 eb) at-3
+    ∙ fill three eb [] 136 768 (omega (arith, length-append two (pad 128 mb), length-append front (pad 4 cs), cl, ml)) (omega (arith, we .long))
+    ∙ ap (λ (l : List ℕ). three ++ l) (append-nil (pad 768 eb)) ∙ append-assoc two (pad 128 mb) (pad 768 eb) ∙ append-assoc front (pad 4 cs) _
+
+-- The counts of a header that was written.
+pub counts-there : {bytes t t′ : List ℕ} {r : ℕ} → r ≡ 0 → WritesHeader bytes t t′ r →
+    (1 ≤ getD t′ 0 0) × (getD t′ 0 0 ≤ 16) × (getD t′ 1 0 ≤ 3) × (getD t′ 2 0 ≤ 64)
+counts-there z (refuses y e) = absurd (omega arith)
+counts-there z (gives h y e k) =
+    omega (
+      arith,
+      k .range,
+      ap (λ (l : List ℕ). getD l 0 0) (k .is),
+      ap (λ (l : List ℕ). getD l 1 0) (k .is),
+      ap (λ (l : List ℕ). getD l 2 0) (k .is),
+    )
+
+module _ {bytes t₀ t₁ : List ℕ} {r₁ : ℕ} (gh : WritesHeader bytes t₀ t₁ r₁) where
   -- A part that is refused refuses the table.
-  pub header-refused : (h .refusal ≡ 0 → ⊥) → Gives bytes (h .refusal) 0 (λ (f : Fields). ⊥) (run table bytes)
+  pub header-refused : {n : ℕ} {P : Fields → Type 0} → (r₁ ≡ 0 → ⊥) → Gives bytes r₁ n P (run table bytes)
   unfolding table
-  header-refused z = part-refused header _ bytes z (gh .gives)
+  header-refused z = part-refused header _ bytes z gh
 
-  module _ (z : h .refusal ≡ 0) (c : CeilingsRead) (gc : GivesCeilings (inOrder (λ i. within 2 1 15) 0 (h .timers)) bytes (h .next) c) where
-    pub ceilings-refused : (c .refusal ≡ 0 → ⊥) → Gives bytes (c .refusal) 0 (λ (f : Fields). ⊥) (run table bytes)
+  module _ (z : r₁ ≡ 0) {t₂ : List ℕ} (c : Next) (n m e : ℕ) (en : n ≡ getD t₁ 1 0) (em : m ≡ getD t₁ 0 0) (ee : e ≡ getD t₁ 2 0)
+      (gc : Writes (λ cs. cs) n (inOrder (λ i. within 2 1 15) 0 n) bytes 4 t₁ 4 t₂ c) where
+    -- The counts are those of the header.
+    timers-are : {h : Header} → HeaderWrote t₀ t₁ h → n ≡ h .timers
+    timers-are k = en ∙ ap (λ (l : List ℕ). getD l 1 0) (k .is)
+
+    modes-are : {h : Header} → HeaderWrote t₀ t₁ h → m ≡ h .modes
+    modes-are k = em ∙ ap (λ (l : List ℕ). getD l 0 0) (k .is)
+
+    moves-are : {h : Header} → HeaderWrote t₀ t₁ h → e ≡ h .moves
+    moves-are k = ee ∙ ap (λ (l : List ℕ). getD l 2 0) (k .is)
+
+    pub ceilings-refused : {k : ℕ} {P : Fields → Type 0} → (c .refusal ≡ 0 → ⊥) → Gives bytes (c .refusal) k P (run table bytes)
     unfolding table
     ceilings-refused y =
-        part-known header _ bytes z (gh .gives)
-        (part-refused (inOrder (λ i. within 2 1 15) 0 (h .timers)) _ (drop (h .next) bytes) y gc)
+        part-taken header _ bytes z gh (λ h q k. rw (← timers-are k) (part-refused (inOrder (λ i. within 2 1 15) 0 n) _ (drop 4 bytes) y gc))
 
-    module _ (y : c .refusal ≡ 0) (m : Modes) (gm : GivesModes (inOrder (λ i. modeRecord (h .timers)) 0 (h .modes)) bytes (c .next) m) where
-      pub modes-refused : (m .refusal ≡ 0 → ⊥) → Gives bytes (m .refusal) 0 (λ (f : Fields). ⊥) (run table bytes)
+    module _ (y : c .refusal ≡ 0) {t₃ : List ℕ} (o : Next)
+        (gm : Writes (λ ms. flat (map modeBytes ms)) (8 * m) (inOrder (λ i. modeRecord n) 0 m) bytes (c .next) t₂ 8 t₃ o) where
+      pub modes-refused : {k : ℕ} {P : Fields → Type 0} → (o .refusal ≡ 0 → ⊥) → Gives bytes (o .refusal) k P (run table bytes)
       unfolding table
       modes-refused x =
-          part-known header _ bytes z (gh .gives)
-          (part-taken (inOrder (λ i. within 2 1 15) 0 (h .timers)) _ (drop (h .next) bytes) y gc (λ cs q k.
-          part-refused (inOrder (λ i. modeRecord (h .timers)) 0 (h .modes)) _ (drop (c .next) bytes) x gm))
+          part-taken header _ bytes z gh (λ h q k. rw (← timers-are k, ← modes-are k)
+          (part-taken (inOrder (λ i. within 2 1 15) 0 n) _ (drop 4 bytes) y gc (λ cs p l.
+          part-refused (inOrder (λ i. modeRecord n) 0 m) _ (drop (c .next) bytes) x gm)))
 
-      module _ (x : m .refusal ≡ 0) (e : Moves) (ge : GivesMoves (inOrder (λ i. moveRecord (h .modes) (h .timers)) 0 (h .moves)) bytes (m .next) e) where
-        pub moves-refused : (e .refusal ≡ 0 → ⊥) → Gives bytes (e .refusal) 0 (λ (f : Fields). ⊥) (run table bytes)
-        unfolding table
-        moves-refused w =
-            part-known header _ bytes z (gh .gives)
-            (part-taken (inOrder (λ i. within 2 1 15) 0 (h .timers)) _ (drop (h .next) bytes) y gc (λ cs q k.
-            part-taken (inOrder (λ i. modeRecord (h .timers)) 0 (h .modes)) _ (drop (c .next) bytes) x gm (λ ms r l.
-            part-refused (inOrder (λ i. moveRecord (h .modes) (h .timers)) 0 (h .moves)) _ (drop (m .next) bytes) w ge)))
+      -- The whole table is held.
+      pub all-held : t₀ ≡ replicate 904 0 → o .refusal ≡ 0 → {t₄ : List ℕ} (r : Next) →
+          Writes (λ es. flat (map moveBytes es)) (12 * e) (inOrder (λ i. moveRecord m n) 0 e) bytes (o .next) t₃ 136 t₄ r → Contains bytes t₄ r
+      unfolding table held
+      all-held blank x {t₄} r ge =
+          part-taken header _ bytes z gh (λ h q k. rw (← timers-are k, ← modes-are k, ← moves-are k)
+          (part-taken (inOrder (λ i. within 2 1 15) 0 n) _ (drop 4 bytes) y gc (λ cs p l.
+          part-taken (inOrder (λ i. modeRecord n) 0 m) _ (drop (c .next) bytes) x gm (λ ms u w.
+          part-last (inOrder (λ i. moveRecord m n) 0 e) _ (drop (o .next) bytes) ge (λ es v j.
+          let em : h .modes ≡ length ms = sym (modes-are k) ∙ sym (order-length _ 0 m (drop (c .next) bytes) ms _ u) in
+          let en : h .timers ≡ length cs = sym (timers-are k) ∙ sym (order-length _ 0 n (drop 4 bytes) cs _ p) in
+          let ee : h .moves ≡ length es = sym (moves-are k) ∙ sym (order-length _ 0 e (drop (o .next) bytes) es _ v) in
+          parts-held h cs ms es (omega (arith, k .range, timers-are k)) (omega (arith, k .range, modes-are k)) (omega (arith, k .range, moves-are k)) blank k l w j
+          ∙ (λ i. em i ∷ en i ∷ ee i ∷ h .goal ∷ (pad 4 cs ++ (pad 128 (flat (map modeBytes ms)) ++ pad 768 (flat (map moveBytes es))))))))))
 
-        pub whole : e .refusal ≡ 0 → Gives bytes 0 (e .next) (Whole h c m e) (run table bytes)
-        unfolding table
-        whole w =
-            part-known header _ bytes z (gh .gives)
-            (part-taken (inOrder (λ i. within 2 1 15) 0 (h .timers)) _ (drop (h .next) bytes) y gc (λ cs q k.
-            part-taken (inOrder (λ i. modeRecord (h .timers)) 0 (h .modes)) _ (drop (c .next) bytes) x gm (λ ms r l.
-            part-taken (inOrder (λ i. moveRecord (h .modes) (h .timers)) 0 (h .moves)) _ (drop (m .next) bytes) w ge (λ es t j.
-            gives _ refl refl (record {
-              goal = refl;
-              timers = sym (order-length _ 0 (h .timers) (drop (h .next) bytes) cs _ q);
-              modes = sym (order-length _ 0 (h .modes) (drop (c .next) bytes) ms _ r);
-              moves = sym (order-length _ 0 (h .moves) (drop (m .next) bytes) es _ t);
-              ceilings-held = k;
-              modes-held = l;
-              moves-held = j;
-              start =
-                  ap (λ (a : List ℕ). holdAtZero (conditionsFrom 0 a))
-                  (ap (take 6) (l .invariants-held) ∙ first-six (h .timers) (drop (c .next) bytes) (drop (m .next) bytes) ms (h .modes) (gh .range z .0) r)
-                  ∙ sym (first-mode ms);
-            })))))
+-- The judgement of the whole: refused by a part, bytes left over, or the start tested.
+pub judged-refused : {bytes t t′ : List ℕ} (r : Next) → (r .refusal ≡ 0 → ⊥) → Contains bytes t r → Judges bytes t′ (r .refusal)
+unfolding read
+judged-refused r z (refuses y e) = rejects y (rw e)
+judged-refused r z (gives f y e k) = absurd (z y)
 
--- The struct that `read` makes of the parts.
-abbrev tableOf : HeaderRead → CeilingsRead → Modes → Moves → Table
-tableOf h c m e = record {
-  modes = h .modes;
-  timers = h .timers;
-  moves = h .moves;
-  goal = h .goal;
-  ceilings = c .ceilings;
-  rates = m .rates;
-  invariants = m .invariants;
-  sources = e .sources;
-  targets = e .targets;
-  prices = e .prices;
-  guards = e .guards;
-  resets = e .resets;
-}
+-- Fields that were read, and the table that holds them.
+pub record Whole (bytes t : List ℕ) (next : ℕ) : Type 0 where
+  pub fields : Fields
+  pub took-them : run table bytes ≡ took fields (drop next bytes)
+  pub is : t ≡ held fields
+  pub shaped : Shaped fields
+  pub start : holdAtZero (conditionsFrom 0 (take 6 (drop 10 t))) ≡ startHolds (automaton fields)
 
--- It holds the fields.
-held-whole : (h : HeaderRead) (c : CeilingsRead) (m : Modes) (e : Moves) (f : Fields) → Whole h c m e f → tableOf h c m e ≡ held f
+-- The test of the start.
+held-start : (f : Fields) → Shaped f → 1 ≤ length (f .modes) → holdAtZero (conditionsFrom 0 (take 6 (drop 10 (held f)))) ≡ startHolds (automaton f)
 unfolding held
-held-whole h c m e f k = λ i. record {
-  modes = k .modes i;
-  timers = k .timers i;
-  moves = k .moves i;
-  goal = k .goal i;
-  ceilings = k .ceilings-held i;
-  rates = k .modes-held .rates-held i;
-  invariants = k .modes-held .invariants-held i;
-  sources = k .moves-held .sources-held i;
-  targets = k .moves-held .targets-held i;
-  prices = k .moves-held .prices-held i;
-  guards = k .moves-held .guards-held i;
-  resets = k .moves-held .resets-held i;
-}
+held-start f k h = sym (start-at (held f) h) ∙ ap (λ (g : Fields). startHolds (automaton g)) (fields-shaped f k)
 
--- The reading function on a table that is refused, that has bytes left over, and that ends where the bytes do.
-module _ (bytes : List ℕ) where
-  pub reads-refused : {r n : ℕ} → (r ≡ 0 → ⊥) → Gives bytes r n (λ (f : Fields). ⊥) (run table bytes) → read bytes ≡ rejected r
+pub whole : {bytes t : List ℕ} (r : Next) → r .refusal ≡ 0 → Contains bytes t r → Whole bytes t (r .next)
+whole r z (refuses y e) = absurd (omega arith)
+whole {bytes} r z (gives f y e k) =
+    let front = taken table bytes f (drop (r .next) bytes) e in
+    let lays = table-exactly .lays (front .front) f (front .alone) in
+    let s = layout-shaped (front .front) f lays in
+    record { fields = f; took-them = e; is = k; shaped = s; start = rw k (held-start f s (lays .modes-range .0)) }
+
+module _ {bytes t : List ℕ} {next : ℕ} (w : Whole bytes t next) where
+  pub whole-long : 16 ≤ length t
+  whole-long = omega (arith, ap length (w .is), held-length (w .fields) (w .shaped))
+
+  pub judged-over : {t′ : List ℕ} → next < length bytes → Judges bytes t′ 6
   unfolding read
-  reads-refused z (refuses y e) = rw e
-  reads-refused z (gives f y e k) = absurd k
+  judged-over l = rejects (omega arith) (rw (w .took-them, drop-cons bytes next 0 l))
 
-  module _ {h : HeaderRead} {c : CeilingsRead} {m : Modes} {e : Moves} {n : ℕ} where
-    pub reads-over : n < length bytes → Gives bytes 0 n (Whole h c m e) (run table bytes) → read bytes ≡ rejected 6
-    unfolding read
-    reads-over l (refuses y q) = absurd (omega arith)
-    reads-over l (gives f y q k) = rw (q, drop-cons bytes n 0 l)
+  pub judged-fails : {t′ : List ℕ} → length bytes ≤ next → holdAtZero (conditionsFrom 0 (take 6 (drop 10 t))) ≡ false → Judges bytes t′ 7
+  unfolding read
+  judged-fails l b = rejects (omega arith) (rw (w .took-them, drop-of-length-le bytes l, ← w .start, b))
 
-    pub reads-fails : length bytes ≤ n → holdAtZero (conditionsFrom 0 (take 6 (m .invariants))) ≡ false →
-        Gives bytes 0 n (Whole h c m e) (run table bytes) → read bytes ≡ rejected 7
-    unfolding read
-    reads-fails l b (refuses y q) = absurd (omega arith)
-    reads-fails l b (gives f y q k) = rw (q, drop-of-length-le bytes l, ← k .start, b)
+  pub judged-table : length bytes ≤ next → holdAtZero (conditionsFrom 0 (take 6 (drop 10 t))) ≡ true → Judges bytes t 0
+  unfolding read
+  judged-table l b = accepts (w .fields) refl (rw (w .took-them, drop-of-length-le bytes l, ← w .start, b)) (w .is)
 
-    pub reads-table : length bytes ≤ n → holdAtZero (conditionsFrom 0 (take 6 (m .invariants))) ≡ true →
-        Gives bytes 0 n (Whole h c m e) (run table bytes) → _≡_ {A = Reading} (record { verdict = Accepted; table = tableOf h c m e }) (reading (read bytes))
-    unfolding read reading
-    reads-table l b (refuses y q) = absurd (omega arith)
-    reads-table l b (gives f y q k) =
-        rw (q, drop-of-length-le bytes l, ← k .start, b)
-        (ap {B = Reading} (λ (t : Table). record { verdict = Accepted; table = t }) (held-whole h c m e f k))
+-- What is left of a judgement.
+pub read-accepts : {bytes t : List ℕ} {r : ℕ} → r ≡ 0 → Judges bytes t r → Reading (read bytes) Accepted t
+read-accepts z (rejects y e) = absurd (omega arith)
+read-accepts z (accepts f y e k) = rw e (record { verdict-is = refl; table-is = k })
+
+pub read-rejects : {bytes t : List ℕ} {r : ℕ} → (r ≡ 0 → ⊥) → Judges bytes t r → Reading (read bytes) (Refused r) (replicate 904 0)
+read-rejects z (rejects y e) = rw e (record { verdict-is = refl; table-is = refl })
+read-rejects z (accepts f y e k) = absurd (z y)

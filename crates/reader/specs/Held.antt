@@ -1,12 +1,12 @@
--- How the struct `Table` holds the fields of a table, and the struct `Reading` the judgement.
+-- How the bytes of a table that was read hold its fields: 904 bytes at fixed offsets.
 -- Assumes nothing.
-use Prim.Native.Nat.{ℕ, zero, suc, _-_, _≤_}
+use Prim.Native.Nat.{ℕ, zero, suc, _+_, _*_, _-_, _/_, _%_, _≤_}
 use mathlib.Core.Path.{_≡_}
 use mathlib.Core.List.{List, [], _∷_, _++_, map, List·Memᴰ}
 use lib.ListN.{length, getD, take, drop, replicate}
 use Rattle.semantics.specs.Automata.Proper.{Proper}
-use Rattle.reader.specs.declared.Table.{Table}
-use Rattle.reader.specs.declared.Reading.{Reading}
+use Rattle.semantics.specs.Automaton.{Automaton}
+use Rattle.reader.specs.declared.Verdict.{Verdict}
 use Rattle.reader.specs.declared.Verdict.the-variants.{Accepted, Refused}
 use Rattle.reader.specs.Fields.{mostPrice, ModeFields, MoveFields, Fields}
 use Rattle.reader.specs.Meaning.{automaton}
@@ -21,43 +21,57 @@ abbrev pub flat : List (List ℕ) → List ℕ
 flat [] = []
 flat (l ∷ ls) = l ++ flat ls
 
--- The struct that holds the fields: at most 3 timers, 16 modes and 64 moves, six conditions of each mode and move.
-unfoldable pub held : Fields → Table
-held f = record {
-  modes = length (f .modes);
-  timers = length (f .ceilings);
-  moves = length (f .moves);
-  goal = f .goal;
-  ceilings = pad 3 (f .ceilings);
-  rates = pad 16 (map (λ m. m .rate) (f .modes));
-  invariants = pad 96 (flat (map (λ m. m .conditions) (f .modes)));
-  sources = pad 64 (map (λ e. e .source) (f .moves));
-  targets = pad 64 (map (λ e. e .target) (f .moves));
-  prices = pad 64 (map (λ e. e .price) (f .moves));
-  guards = pad 384 (flat (map (λ e. e .conditions) (f .moves)));
-  resets = pad 64 (map (λ e. e .resets) (f .moves));
+-- A mode record, 8 bytes: the rate, its low byte first, and the six conditions.
+abbrev pub modeBytes : ModeFields → List ℕ
+modeBytes m = m .rate % 256 ∷ m .rate / 256 ∷ m .conditions
+
+-- A move record, 12 bytes: the from mode, the to mode, the price, its low byte first, the six conditions, the byte of the resets, and 0.
+abbrev pub moveBytes : MoveFields → List ℕ
+moveBytes e = e .source ∷ e .target ∷ e .price % 256 ∷ e .price / 256 ∷ (e .conditions ++ e .resets ∷ 0 ∷ [])
+
+-- The bytes that hold the fields: the counts and the goal, from 4 on the ceilings, from 8 on room for sixteen mode records, from 136 on for
+-- sixty-four move records. What is behind the last of each is 0.
+unfoldable pub held : Fields → List ℕ
+held f =
+    length (f .modes) ∷ length (f .ceilings) ∷ length (f .moves) ∷ f .goal
+    ∷ (pad 4 (f .ceilings) ++ (pad 128 (flat (map modeBytes (f .modes))) ++ pad 768 (flat (map moveBytes (f .moves)))))
+
+-- The record with which the bytes begin.
+abbrev pub modeFrom : List ℕ → ModeFields
+modeFrom t = record { rate = getD t 0 0 + 256 * getD t 1 0; conditions = take 6 (drop 2 t) }
+
+abbrev pub moveFrom : List ℕ → MoveFields
+moveFrom t = record {
+  source = getD t 0 0;
+  target = getD t 1 0;
+  price = getD t 2 0 + 256 * getD t 3 0;
+  conditions = take 6 (drop 4 t);
+  resets = getD t 10 0;
 }
 
--- The mode records of the arrays, the first so many; and the move records.
-abbrev pub modesFrom : ℕ → List ℕ → List ℕ → List ModeFields
-modesFrom zero rates invariants = []
-modesFrom (suc n) rates invariants =
-    record { rate = getD rates 0 0; conditions = take 6 invariants } ∷ modesFrom n (drop 1 rates) (drop 6 invariants)
+-- So many records of so many bytes each, one after another.
+abbrev pub recordsFrom : {A : Type 0} → (List ℕ → A) → ℕ → ℕ → List ℕ → List A
+recordsFrom one stride zero t = []
+recordsFrom one stride (suc n) t = one t ∷ recordsFrom one stride n (drop stride t)
 
-abbrev pub movesFrom : ℕ → List ℕ → List ℕ → List ℕ → List ℕ → List ℕ → List MoveFields
-movesFrom zero sources targets prices guards resets = []
-movesFrom (suc n) sources targets prices guards resets =
-    record { source = getD sources 0 0; target = getD targets 0 0; price = getD prices 0 0; conditions = take 6 guards; resets = getD resets 0 0 }
-    ∷ movesFrom n (drop 1 sources) (drop 1 targets) (drop 1 prices) (drop 6 guards) (drop 1 resets)
-
--- The fields that the struct holds.
-unfoldable pub fields : Table → Fields
-fields t = record {
-  goal = t .goal;
-  ceilings = take (t .timers) (t .ceilings);
-  modes = modesFrom (t .modes) (t .rates) (t .invariants);
-  moves = movesFrom (t .moves) (t .sources) (t .targets) (t .prices) (t .guards) (t .resets);
+-- The fields that the bytes hold.
+unfoldable pub fieldsOf : List ℕ → Fields
+fieldsOf t = record {
+  goal = getD t 3 0;
+  ceilings = take (getD t 1 0) (drop 4 t);
+  modes = recordsFrom modeFrom 8 (getD t 0 0) (drop 8 t);
+  moves = recordsFrom moveFrom 12 (getD t 2 0) (drop 136 t);
 }
+
+abbrev pub automatonOf : List ℕ → Automaton
+automatonOf t = automaton (fieldsOf t)
+
+-- The fields of a mode by its number, and of a move; past the last one no field is set.
+abbrev pub modeFieldsAt : Fields → ℕ → ModeFields
+modeFieldsAt f m = getD (f .modes) m (record { rate = 0; conditions = [] })
+
+abbrev pub moveFieldsAt : Fields → ℕ → MoveFields
+moveFieldsAt f e = getD (f .moves) e (record { source = 0; target = 0; price = 0; conditions = []; resets = 0 })
 
 -- The fields are in the ranges that they have in a table, and what they name is there.
 pub record InRange (f : Fields) : Type 0 where
@@ -71,16 +85,21 @@ pub record InRange (f : Fields) : Type 0 where
   pub six-guards : (e : MoveFields) → List·Memᴰ e (f .moves) → length (e .conditions) ≡ 6
   pub proper : Proper (automaton f)
 
--- The struct is a table: it holds fields that are in their ranges.
-pub record IsTable (t : Table) : Type 0 where
-  pub holds : t ≡ held (fields t)
-  pub range : InRange (fields t)
+-- The bytes are a table: they hold fields that are in their ranges.
+pub record IsTable (t : List ℕ) : Type 0 where
+  pub holds : t ≡ held (fieldsOf t)
+  pub range : InRange (fieldsOf t)
 
--- The fields of no table: every count and every entry of the struct is 0.
-abbrev pub blank : Fields
-blank = record { goal = 0; ceilings = []; modes = []; moves = [] }
+-- What a reading gives: a refusal has its number.
+abbrev pub verdictOf : Judgement → Verdict
+verdictOf (accepted f) = Accepted
+verdictOf (rejected n) = Refused n
 
--- An accepted table is held; a refusal has its number, and every field of the table is 0.
-unfoldable pub reading : Judgement → Reading
-reading (accepted f) = record { verdict = Accepted; table = held f }
-reading (rejected n) = record { verdict = Refused n; table = held blank }
+-- What it leaves in the table: the fields are held, or every byte is 0.
+abbrev pub tableOf : Judgement → List ℕ
+tableOf (accepted f) = held f
+tableOf (rejected n) = replicate 904 0
+
+pub record Reading (j : Judgement) (verdict : Verdict) (table : List ℕ) : Type 0 where
+  pub verdict-is : verdict ≡ verdictOf j
+  pub table-is : table ≡ tableOf j

@@ -1,21 +1,17 @@
--- The contract of each private function that reads from a place on: what it gives is what comes of a parser there.
+-- The contract of each private function that reads from a place on: what it gives, or writes into the table, is what comes of a parser there.
 -- Assumes nothing.
-use Prim.Native.Nat.{ℕ, _≤_, _<_}
+use Prim.Native.Nat.{ℕ, _+_, _-_, _^_, _≤_, _<_}
 use mathlib.Core.Path.{_≡_}
-use mathlib.Core.List.{List, map}
-use lib.ListN.{drop}
-use Rattle.reader.specs.Parser.{Parser, Outcome, refused, took, run}
-use Rattle.reader.specs.Fields.{ModeFields, MoveFields}
-use Rattle.reader.specs.Format.{within, Header, header}
-use Rattle.reader.specs.Held.{pad, flat}
+use mathlib.Core.List.{List, [], _∷_, _++_}
+use lib.ListN.{length, drop, set}
+use lib.Seq.{sets}
+use Rattle.reader.specs.Parser.{Parser, done, _>>=_, Outcome, refused, took, run}
+use Rattle.reader.specs.Fields.{ModeFields, Fields}
+use Rattle.reader.specs.Format.{within, ifStands, stands, amount, conditions, Header, header, table}
+use Rattle.reader.specs.Read.{accepted, rejected, read}
+use Rattle.reader.specs.Held.{held}
 use Rattle.reader.specs.declared.fields.Field.{Field}
-use Rattle.reader.specs.declared.fields.ConditionsRead.{ConditionsRead}
-use Rattle.reader.specs.declared.records.ModeRecord.{ModeRecord}
-use Rattle.reader.specs.declared.records.MoveRecord.{MoveRecord}
-use Rattle.reader.specs.declared.records.Modes.{Modes}
-use Rattle.reader.specs.declared.records.HeaderRead.{HeaderRead}
-use Rattle.reader.specs.declared.records.CeilingsRead.{CeilingsRead}
-use Rattle.reader.specs.declared.records.Moves.{Moves}
+use Rattle.reader.specs.declared.records.Next.{Next}
 
 -- A refusal by its number; or no refusal, 0, the place after what was taken, and a value of which P holds.
 pub data Gives {A : Type 0} (bytes : List ℕ) (refusal next : ℕ) (P : A → Type 0) (o : Outcome A) : Type 0 where
@@ -26,53 +22,66 @@ pub data Gives {A : Type 0} (bytes : List ℕ) (refusal next : ℕ) (P : A → T
 abbrev pub GivesField : Parser ℕ → List ℕ → ℕ → Field → Type 0
 GivesField p bytes from r = Gives bytes (r .refusal) (r .next) (λ a. r .value ≡ a) (run p (drop from bytes))
 
--- Besides, where it is not refused, the byte is in its range.
+-- Besides, where it is not refused, the byte is in its range, and one byte was taken.
 pub record GivesWithin (number low high : ℕ) (bytes : List ℕ) (from : ℕ) (r : Field) : Type 0 where
   pub gives : GivesField (within number low high) bytes from r
-  pub range : r .refusal ≡ 0 → (low ≤ r .value) × (r .value ≤ high)
+  pub range : r .refusal ≡ 0 → (low ≤ r .value) × (r .value ≤ high) × (r .next ≡ from + 1)
 
-abbrev pub GivesConditions : Parser (List ℕ) → List ℕ → ℕ → ConditionsRead → Type 0
-GivesConditions p bytes from r = Gives bytes (r .refusal) (r .next) (λ a. r .bytes ≡ a) (run p (drop from bytes))
+-- The bytes xs, so many, were written into t from `at` on.
+pub record Wrote (wide : ℕ) (t : List ℕ) (at : ℕ) (t′ xs : List ℕ) : Type 0 where
+  pub is : t′ ≡ sets t at xs
+  pub long : length xs ≡ wide
 
-abbrev pub modeFields : ModeRecord → ModeFields
-modeFields r = record { rate = r .rate; conditions = r .conditions }
+-- What the parser gives from the place `from` on is written into t from `at` on, as so many bytes.
+abbrev pub Writes : {A : Type 0} → (A → List ℕ) → ℕ → Parser A → List ℕ → ℕ → List ℕ → ℕ → List ℕ → Next → Type 0
+Writes enc wide p bytes from t at t′ r = Gives bytes (r .refusal) (r .next) (λ a. Wrote wide t at t′ (enc a)) (run p (drop from bytes))
 
-abbrev pub GivesMode : Parser ModeFields → List ℕ → ℕ → ModeRecord → Type 0
-GivesMode p bytes from r = Gives bytes (r .refusal) (r .next) (λ a. modeFields r ≡ a) (run p (drop from bytes))
+-- A byte in its range is written where it stands.
+pub record Copied (low high : ℕ) (t : List ℕ) (at : ℕ) (t′ : List ℕ) (b : ℕ) : Type 0 where
+  pub is : t′ ≡ set t at b
+  pub range : (low ≤ b) × (b ≤ high)
 
-abbrev pub moveFields : MoveRecord → MoveFields
-moveFields r = record { source = r .source; target = r .target; price = r .price; conditions = r .conditions; resets = r .resets }
+abbrev pub Copies : ℕ → ℕ → List ℕ → ℕ → List ℕ → List ℕ → ℕ → Type 0
+Copies low high bytes at t t′ r = Gives bytes r (at + 1) (Copied low high t at t′) (run (within 2 low high) (drop at bytes))
 
-abbrev pub GivesMove : Parser MoveFields → List ℕ → ℕ → MoveRecord → Type 0
-GivesMove p bytes from r = Gives bytes (r .refusal) (r .next) (λ a. moveFields r ≡ a) (run p (drop from bytes))
+abbrev pub headerBytes : Header → List ℕ
+headerBytes h = h .modes ∷ h .timers ∷ h .moves ∷ h .goal ∷ []
 
-abbrev pub headerOf : HeaderRead → Header
-headerOf r = record { modes = r .modes; timers = r .timers; moves = r .moves; goal = r .goal }
+-- The counts are in their ranges.
+pub record HeaderWrote (t t′ : List ℕ) (h : Header) : Type 0 where
+  pub is : t′ ≡ headerBytes h ++ drop 4 t
+  pub range : (1 ≤ h .modes) × (h .modes ≤ 16) × (1 ≤ h .timers) × (h .timers ≤ 3) × (h .moves ≤ 64)
 
--- Besides, where it is not refused, the counts are in their ranges.
-pub record GivesHeader (bytes : List ℕ) (r : HeaderRead) : Type 0 where
-  pub gives : Gives bytes (r .refusal) (r .next) (λ h. headerOf r ≡ h) (run header bytes)
-  pub range : r .refusal ≡ 0 → (1 ≤ r .modes) × (r .modes ≤ 16) × (1 ≤ r .timers) × (r .timers ≤ 3) × (r .moves ≤ 64)
+abbrev pub WritesHeader : List ℕ → List ℕ → List ℕ → ℕ → Type 0
+WritesHeader bytes t t′ r = Gives bytes r 4 (HeaderWrote t t′) (run header bytes)
 
-abbrev pub GivesCeilings : Parser (List ℕ) → List ℕ → ℕ → CeilingsRead → Type 0
-GivesCeilings p bytes from r = Gives bytes (r .refusal) (r .next) (λ cs. r .ceilings ≡ pad 3 cs) (run p (drop from bytes))
+-- The parts of a record behind its bit map: the rate or price with the conditions, the from and to modes, and the byte of the resets.
+abbrev pub priced : ℕ → Parser ModeFields
+priced map = do
+  rate ← amount map
+  cs ← conditions map
+  done (record { rate = rate; conditions = cs })
 
--- The arrays hold the mode records.
-pub record HoldModes (rates invariants : List ℕ) (ms : List ModeFields) : Type 0 where
-  pub rates-held : rates ≡ pad 16 (map (λ m. m .rate) ms)
-  pub invariants-held : invariants ≡ pad 96 (flat (map (λ m. m .conditions) ms))
+abbrev pub ends : ℕ → Parser (ℕ × ℕ)
+ends m = do
+  source ← within 5 0 (m - 1)
+  target ← within 5 0 (m - 1)
+  done (source, target)
 
-abbrev pub GivesModes : Parser (List ModeFields) → List ℕ → ℕ → Modes → Type 0
-GivesModes p bytes from r = Gives bytes (r .refusal) (r .next) (HoldModes (r .rates) (r .invariants)) (run p (drop from bytes))
+abbrev pub endBytes : ℕ × ℕ → List ℕ
+endBytes p = p .0 ∷ p .1 ∷ []
 
--- The arrays hold the move records.
-pub record HoldMoves (sources targets prices guards resets : List ℕ) (es : List MoveFields) : Type 0 where
-  pub sources-held : sources ≡ pad 64 (map (λ e. e .source) es)
-  pub targets-held : targets ≡ pad 64 (map (λ e. e .target) es)
-  pub prices-held : prices ≡ pad 64 (map (λ e. e .price) es)
-  pub guards-held : guards ≡ pad 384 (flat (map (λ e. e .conditions) es))
-  pub resets-held : resets ≡ pad 64 (map (λ e. e .resets) es)
+abbrev pub resets : ℕ → ℕ → Parser ℕ
+resets map n = ifStands (stands map 7) (within 3 0 (2 ^ n - 1))
 
-abbrev pub GivesMoves : Parser (List MoveFields) → List ℕ → ℕ → Moves → Type 0
-GivesMoves p bytes from r =
-    Gives bytes (r .refusal) (r .next) (HoldMoves (r .sources) (r .targets) (r .prices) (r .guards) (r .resets)) (run p (drop from bytes))
+abbrev pub resetBytes : ℕ → List ℕ
+resetBytes b = b ∷ 0 ∷ []
+
+-- The whole table is held.
+abbrev pub Contains : List ℕ → List ℕ → Next → Type 0
+Contains bytes t′ r = Gives bytes (r .refusal) (r .next) (λ f. t′ ≡ held f) (run table bytes)
+
+-- The bytes are rejected by a number, or accepted, 0, and their fields held.
+pub data Judges (bytes t′ : List ℕ) (r : ℕ) : Type 0 where
+  rejects : 0 < r → read bytes ≡ rejected r → Judges bytes t′ r
+  accepts : (f : Fields) → r ≡ 0 → read bytes ≡ accepted f → t′ ≡ held f → Judges bytes t′ r

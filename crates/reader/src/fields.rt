@@ -1,11 +1,9 @@
 // Single fields of a table: each function reads from a place on with one parser of the definitions.
 ghost use mathlib.Core.Path.{_≡_};
 ghost use Prim.Native.Nat.{_<_, _≤_, _^_};
-ghost use Rattle.reader.specs.Format.{within, ifStands, amount, bitMap, conditions};
-ghost use Rattle.reader.specs.Step.{GivesField, GivesWithin, GivesConditions};
+ghost use Rattle.reader.specs.Format.{within, ifStands, amount, bitMap};
+ghost use Rattle.reader.specs.Step.{GivesField, GivesWithin};
 use crate::ABSENT_TIMER;
-use crate::BAD_CODE;
-use crate::CONDITIONS;
 use crate::NO_BYTE_LEFT;
 
 // What the functions give: a refusal's number or 0, the place of the next byte, and what was read.
@@ -13,12 +11,6 @@ pub struct Field {
     pub refusal: u8,
     pub next: usize,
     pub value: u8,
-}
-
-pub struct ConditionsRead {
-    pub refusal: u8,
-    pub next: usize,
-    pub bytes: [u8; CONDITIONS],
 }
 
 // A byte from low to high.
@@ -130,30 +122,4 @@ pub fn bit_map(bytes: &[u8], from: usize, high: u8, timers: u8) -> Field
         };
     }
     map
-}
-
-// The six conditions of a record, each where its bit stands.
-pub fn conditions(bytes: &[u8], from: usize, map: u8) -> ConditionsRead
-    ensures { λ r. ⌜ GivesConditions (conditions map) (now (bytes .entry)) from r ⌝ }
-{
-    let mut read = [0u8; CONDITIONS];
-    let mut next = from;
-    for i in 0..CONDITIONS {
-        let stands = (map >> (1 + i)) % 2 == 1;
-        let c = optional(bytes, next, stands, BAD_CODE, 16, 95);
-        if c.refusal != 0 {
-            return ConditionsRead {
-                refusal: c.refusal,
-                next,
-                bytes: read,
-            };
-        }
-        read[i] = c.value;
-        next = c.next;
-    }
-    ConditionsRead {
-        refusal: 0,
-        next,
-        bytes: read,
-    }
 }

@@ -1,311 +1,291 @@
-// The parts of a table: header, ceilings, mode records and move records.
+// The parts of a table: each function reads from a place on and writes what it read into the table.
 ghost use mathlib.Core.Path.{_≡_};
-ghost use Prim.Native.Nat.{_+_, _<_, _≤_};
-ghost use lib.ListN.{length};
-ghost use lib.Seq.{paste};
+ghost use mathlib.Core.List.{map};
+ghost use Prim.Native.Nat.{_+_, _*_, _<_, _≤_};
+ghost use lib.ListN.{length, replicate};
 ghost use Rattle.reader.specs.Parser.{inOrder};
-ghost use Rattle.reader.specs.Format.{within, modeRecord, moveRecord};
-ghost use Rattle.reader.specs.Step.{GivesMode, GivesMove, GivesHeader, GivesCeilings, GivesModes, GivesMoves};
+ghost use Rattle.reader.specs.Format.{within, conditions, modeRecord, moveRecord};
+ghost use Rattle.reader.specs.Held.{flat, modeBytes, moveBytes};
+ghost use Rattle.reader.specs.Step.{Copies, WritesHeader, Writes, Contains, priced, ends, resets, endBytes, resetBytes};
 use crate::ABSENT_TIMER;
+use crate::BAD_CODE;
 use crate::CONDITIONS;
-use crate::MOST_MODES;
-use crate::MOST_MOVES;
-use crate::MOST_TIMERS;
 use crate::NO_SUCH_MODE;
 use crate::OUT_OF_RANGE;
 use crate::fields::amount;
 use crate::fields::bit_map;
 use crate::fields::byte_within;
-use crate::fields::conditions;
 use crate::fields::names;
 use crate::fields::optional;
+use crate::table::CEILINGS;
+use crate::table::GOAL;
+use crate::table::HIGH;
+use crate::table::INVARIANT;
+use crate::table::MODE_RECORDS;
+use crate::table::MODE_STRIDE;
+use crate::table::MODES;
+use crate::table::MOVE_RECORDS;
+use crate::table::MOVE_STRIDE;
+use crate::table::MOVES;
+use crate::table::PRICE;
+use crate::table::RESETS;
+use crate::table::TABLE;
+use crate::table::TARGET;
+use crate::table::TIMERS;
 
-// What the functions give: a refusal's number or 0, the place of the next byte, and what was read.
-pub struct HeaderRead {
+// What the functions give: a refusal's number or 0, and the place of the next byte.
+pub struct Next {
     pub refusal: u8,
     pub next: usize,
-    pub modes: u8,
-    pub timers: u8,
-    pub moves: u8,
-    pub goal: u8,
 }
 
-pub struct CeilingsRead {
-    pub refusal: u8,
-    pub next: usize,
-    pub ceilings: [u8; MOST_TIMERS],
-}
-
-pub struct ModeRecord {
-    pub refusal: u8,
-    pub next: usize,
-    pub rate: u16,
-    pub conditions: [u8; CONDITIONS],
-}
-
-pub struct MoveRecord {
-    pub refusal: u8,
-    pub next: usize,
-    pub source: u8,
-    pub target: u8,
-    pub price: u16,
-    pub conditions: [u8; CONDITIONS],
-    pub resets: u8,
-}
-
-pub struct Modes {
-    pub refusal: u8,
-    pub next: usize,
-    pub rates: [u16; MOST_MODES],
-    pub invariants: [u8; MOST_MODES * CONDITIONS],
-}
-
-pub struct Moves {
-    pub refusal: u8,
-    pub next: usize,
-    pub sources: [u8; MOST_MOVES],
-    pub targets: [u8; MOST_MOVES],
-    pub prices: [u16; MOST_MOVES],
-    pub guards: [u8; MOST_MOVES * CONDITIONS],
-    pub resets: [u8; MOST_MOVES],
-}
-
-// A header that is refused.
-fn no_header(refusal: u8) -> HeaderRead
-    ensures { λ r. ⌜ r .refusal ≡ refusal ⌝ }
+// A byte from low to high that stands in the table where it stands in the bytes: gives a refusal's number or 0.
+fn copied(bytes: &[u8], at: usize, low: u8, high: u8, table: &mut [u8; TABLE]) -> u8
+    requires { ⌜ at < 904 ⌝ }
+    ensures { λ r. ⌜ Copies low high (now (bytes .entry)) at (now (table .entry)) (now (table .exit)) r ⌝ }
 {
-    HeaderRead {
-        refusal,
-        next: 0,
-        modes: 0,
-        timers: 0,
-        moves: 0,
-        goal: 0,
-    }
+    let b = byte_within(bytes, at, OUT_OF_RANGE, low, high);
+    table[at] = b.value;
+    b.refusal
 }
 
 // The numbers of modes, timers and moves, and the goal.
-pub fn header(bytes: &[u8]) -> HeaderRead
-    ensures { λ r. ⌜ GivesHeader (now (bytes .entry)) r ⌝ }
+fn header(bytes: &[u8], table: &mut [u8; TABLE]) -> u8
+    requires { ⌜ 4 ≤ length (now table) ⌝ }
+    ensures { λ r. ⌜ WritesHeader (now (bytes .entry)) (now (table .entry)) (now (table .exit)) r ⌝ }
 {
-    let m = byte_within(bytes, 0, OUT_OF_RANGE, 1, 16);
-    if m.refusal != 0 {
-        return no_header(m.refusal);
+    let m = copied(bytes, MODES, 1, 16, table);
+    if m != 0 {
+        return m;
     }
-    let n = byte_within(bytes, m.next, OUT_OF_RANGE, 1, 3);
-    if n.refusal != 0 {
-        return no_header(n.refusal);
+    let n = copied(bytes, TIMERS, 1, 3, table);
+    if n != 0 {
+        return n;
     }
-    let e = byte_within(bytes, n.next, OUT_OF_RANGE, 0, 64);
-    if e.refusal != 0 {
-        return no_header(e.refusal);
+    let e = copied(bytes, MOVES, 0, 64, table);
+    if e != 0 {
+        return e;
     }
-    let goal = byte_within(bytes, e.next, OUT_OF_RANGE, 0, m.value - 1);
-    HeaderRead {
-        refusal: goal.refusal,
-        next: goal.next,
-        modes: m.value,
-        timers: n.value,
-        moves: e.value,
-        goal: goal.value,
-    }
+    let last = table[MODES] - 1;
+    copied(bytes, GOAL, 0, last, table)
 }
 
 // The ceilings, one for each timer.
-pub fn ceilings(bytes: &[u8], from: usize, timers: u8) -> CeilingsRead
+fn ceilings(bytes: &[u8], timers: u8, table: &mut [u8; TABLE]) -> Next
     requires { ⌜ timers ≤ 3 ⌝ }
-    ensures { λ r. ⌜ GivesCeilings (inOrder (λ i. within 2 1 15) 0 timers) (now (bytes .entry)) from r ⌝ }
+    ensures { λ r. ⌜
+        Writes (λ cs. cs) timers (inOrder (λ i. within 2 1 15) 0 timers) (now (bytes .entry)) 4 (now (table .entry)) 4 (now (table .exit)) r
+        ⌝ }
 {
-    let mut read = [0u8; MOST_TIMERS];
-    let mut next = from;
     for i in 0..timers as usize {
-        let c = byte_within(bytes, next, OUT_OF_RANGE, 1, 15);
-        if c.refusal != 0 {
-            return CeilingsRead {
-                refusal: c.refusal,
-                next,
-                ceilings: read,
-            };
+        let refusal = copied(bytes, CEILINGS + i, 1, 15, table);
+        if refusal != 0 {
+            return Next { refusal, next: 0 };
         }
-        read[i] = c.value;
-        next = c.next;
     }
-    CeilingsRead {
+    Next {
         refusal: 0,
-        next,
-        ceilings: read,
+        next: CEILINGS + timers as usize,
     }
 }
 
-// A mode record that is refused.
-fn no_mode(refusal: u8) -> ModeRecord
-    ensures { λ r. ⌜ r .refusal ≡ refusal ⌝ }
+// The six conditions of a record, each where its bit stands.
+fn conditions(bytes: &[u8], from: usize, map: u8, table: &mut [u8; TABLE], at: usize) -> Next
+    requires { ⌜ at + 6 ≤ 904 ⌝ }
+    ensures { λ r. ⌜ Writes (λ cs. cs) 6 (conditions map) (now (bytes .entry)) from (now (table .entry)) at (now (table .exit)) r ⌝ }
 {
-    ModeRecord {
-        refusal,
-        next: 0,
-        rate: 0,
-        conditions: [0; CONDITIONS],
+    let mut next = from;
+    for i in 0..CONDITIONS {
+        let stands = (map >> (1 + i)) % 2 == 1;
+        let c = optional(bytes, next, stands, BAD_CODE, 16, 95);
+        if c.refusal != 0 {
+            return Next {
+                refusal: c.refusal,
+                next,
+            };
+        }
+        table[at + i] = c.value;
+        next = c.next;
     }
+    Next { refusal: 0, next }
+}
+
+// A rate or a price, its high byte 0, and the conditions behind it.
+fn priced(bytes: &[u8], from: usize, map: u8, table: &mut [u8; TABLE], at: usize) -> Next
+    requires { ⌜ at + 8 ≤ 904 ⌝ }
+    ensures { λ r. ⌜ Writes modeBytes 8 (priced map) (now (bytes .entry)) from (now (table .entry)) at (now (table .exit)) r ⌝ }
+{
+    let a = amount(bytes, from, map);
+    if a.refusal != 0 {
+        return Next {
+            refusal: a.refusal,
+            next: from,
+        };
+    }
+    table[at] = a.value;
+    table[at + HIGH] = 0;
+    conditions(bytes, a.next, map, table, at + INVARIANT)
 }
 
 // A mode record.
-fn mode_record(bytes: &[u8], from: usize, timers: u8) -> ModeRecord
-    requires { ⌜ timers ≤ 3 ⌝ }
-    ensures { λ r. ⌜ GivesMode (modeRecord timers) (now (bytes .entry)) from r ⌝ }
+fn mode_record(bytes: &[u8], from: usize, timers: u8, table: &mut [u8; TABLE], at: usize) -> Next
+    requires { ⌜ (timers ≤ 3) × (at + 8 ≤ 904) ⌝ }
+    ensures { λ r. ⌜ Writes modeBytes 8 (modeRecord timers) (now (bytes .entry)) from (now (table .entry)) at (now (table .exit)) r ⌝ }
 {
     let map = bit_map(bytes, from, 127, timers);
     if map.refusal != 0 {
-        return no_mode(map.refusal);
+        return Next {
+            refusal: map.refusal,
+            next: from,
+        };
     }
-    let rate = amount(bytes, map.next, map.value);
-    if rate.refusal != 0 {
-        return no_mode(rate.refusal);
+    priced(bytes, map.next, map.value, table, at)
+}
+
+// The from mode and the to mode of a move.
+fn ends(bytes: &[u8], from: usize, modes: u8, table: &mut [u8; TABLE], at: usize) -> Next
+    requires { ⌜ (0 < modes) × (at + 2 ≤ 904) ⌝ }
+    ensures { λ r. ⌜ Writes endBytes 2 (ends modes) (now (bytes .entry)) from (now (table .entry)) at (now (table .exit)) r ⌝ }
+{
+    let source = byte_within(bytes, from, NO_SUCH_MODE, 0, modes - 1);
+    if source.refusal != 0 {
+        return Next {
+            refusal: source.refusal,
+            next: from,
+        };
     }
-    let read = conditions(bytes, rate.next, map.value);
-    let conditions = read.bytes;
-    ModeRecord {
-        refusal: read.refusal,
-        next: read.next,
-        rate: rate.value as u16,
-        conditions,
+    let target = byte_within(bytes, source.next, NO_SUCH_MODE, 0, modes - 1);
+    table[at] = source.value;
+    table[at + TARGET] = target.value;
+    Next {
+        refusal: target.refusal,
+        next: target.next,
     }
 }
 
-// A move record that is refused.
-fn no_move(refusal: u8) -> MoveRecord
-    ensures { λ r. ⌜ r .refusal ≡ refusal ⌝ }
+// The byte of the resets where bit 7 stands, and the 0 behind it.
+fn resets(
+    bytes: &[u8],
+    from: usize,
+    map: u8,
+    timers: u8,
+    table: &mut [u8; TABLE],
+    at: usize,
+) -> Next
+    requires { ⌜ (timers ≤ 3) × (at + 2 ≤ 904) ⌝ }
+    ensures { λ r. ⌜ Writes resetBytes 2 (resets map timers) (now (bytes .entry)) from (now (table .entry)) at (now (table .exit)) r ⌝ }
 {
-    MoveRecord {
-        refusal,
-        next: 0,
-        source: 0,
-        target: 0,
-        price: 0,
-        conditions: [0; CONDITIONS],
-        resets: 0,
+    let stands = (map >> 7) % 2 == 1;
+    let b = optional(bytes, from, stands, ABSENT_TIMER, 0, names(timers) - 1);
+    table[at] = b.value;
+    table[at + 1] = 0;
+    Next {
+        refusal: b.refusal,
+        next: b.next,
     }
 }
 
 // A move record.
-fn move_record(bytes: &[u8], from: usize, modes: u8, timers: u8) -> MoveRecord
-    requires { ⌜ (0 < modes) × (timers ≤ 3) ⌝ }
-    ensures { λ r. ⌜ GivesMove (moveRecord modes timers) (now (bytes .entry)) from r ⌝ }
+fn move_record(
+    bytes: &[u8],
+    from: usize,
+    modes: u8,
+    timers: u8,
+    table: &mut [u8; TABLE],
+    at: usize,
+) -> Next
+    requires { ⌜ (0 < modes) × (timers ≤ 3) × (at + 12 ≤ 904) ⌝ }
+    ensures { λ r. ⌜ Writes moveBytes 12 (moveRecord modes timers) (now (bytes .entry)) from (now (table .entry)) at (now (table .exit)) r ⌝ }
 {
     let map = bit_map(bytes, from, 255, timers);
     if map.refusal != 0 {
-        return no_move(map.refusal);
+        return Next {
+            refusal: map.refusal,
+            next: from,
+        };
     }
-    let source = byte_within(bytes, map.next, NO_SUCH_MODE, 0, modes - 1);
-    if source.refusal != 0 {
-        return no_move(source.refusal);
+    let e = ends(bytes, map.next, modes, table, at);
+    if e.refusal != 0 {
+        return e;
     }
-    let target = byte_within(bytes, source.next, NO_SUCH_MODE, 0, modes - 1);
-    if target.refusal != 0 {
-        return no_move(target.refusal);
+    let p = priced(bytes, e.next, map.value, table, at + PRICE);
+    if p.refusal != 0 {
+        return p;
     }
-    let price = amount(bytes, target.next, map.value);
-    if price.refusal != 0 {
-        return no_move(price.refusal);
-    }
-    let read = conditions(bytes, price.next, map.value);
-    if read.refusal != 0 {
-        return no_move(read.refusal);
-    }
-    let stands = (map.value >> 7) % 2 == 1;
-    let resets = optional(bytes, read.next, stands, ABSENT_TIMER, 0, names(timers) - 1);
-    let conditions = read.bytes;
-    MoveRecord {
-        refusal: resets.refusal,
-        next: resets.next,
-        source: source.value,
-        target: target.value,
-        price: price.value as u16,
-        conditions,
-        resets: resets.value,
-    }
-}
-
-// Stores the six conditions of a record from a place on.
-fn store(to: &mut [u8], at: usize, conditions: [u8; CONDITIONS])
-    requires { ⌜ at + 6 ≤ length (now to) ⌝ }
-    ensures { λ _. ⌜ now (to .exit) ≡ paste (now (to .entry)) at conditions 6 ⌝ }
-{
-    for i in 0..CONDITIONS {
-        to[at + i] = conditions[i];
-    }
+    resets(bytes, p.next, map.value, timers, table, at + RESETS)
 }
 
 // The mode records, one after another.
-pub fn mode_records(bytes: &[u8], from: usize, timers: u8, modes: u8) -> Modes
+fn mode_records(bytes: &[u8], from: usize, timers: u8, modes: u8, table: &mut [u8; TABLE]) -> Next
     requires { ⌜ (timers ≤ 3) × (modes ≤ 16) ⌝ }
-    ensures { λ r. ⌜ GivesModes (inOrder (λ i. modeRecord timers) 0 modes) (now (bytes .entry)) from r ⌝ }
+    ensures { λ r. ⌜
+        Writes (λ ms. flat (map modeBytes ms)) (8 * modes) (inOrder (λ i. modeRecord timers) 0 modes) (now (bytes .entry)) from
+        (now (table .entry)) 8 (now (table .exit)) r
+        ⌝ }
 {
-    let mut rates = [0u16; MOST_MODES];
-    let mut invariants = [0u8; MOST_MODES * CONDITIONS];
     let mut next = from;
     for i in 0..modes as usize {
-        let m = mode_record(bytes, next, timers);
+        let m = mode_record(bytes, next, timers, table, MODE_RECORDS + MODE_STRIDE * i);
         if m.refusal != 0 {
-            return Modes {
-                refusal: m.refusal,
-                next,
-                rates,
-                invariants,
-            };
+            return m;
         }
-        rates[i] = m.rate;
-        let conditions = m.conditions;
-        store(&mut invariants, CONDITIONS * i, conditions);
         next = m.next;
     }
-    Modes {
-        refusal: 0,
-        next,
-        rates,
-        invariants,
-    }
+    Next { refusal: 0, next }
 }
 
 // The move records, one after another.
-pub fn move_records(bytes: &[u8], from: usize, timers: u8, modes: u8, moves: u8) -> Moves
+fn move_records(
+    bytes: &[u8],
+    from: usize,
+    timers: u8,
+    modes: u8,
+    moves: u8,
+    table: &mut [u8; TABLE],
+) -> Next
     requires { ⌜ (timers ≤ 3) × (0 < modes) × (moves ≤ 64) ⌝ }
-    ensures { λ r. ⌜ GivesMoves (inOrder (λ i. moveRecord modes timers) 0 moves) (now (bytes .entry)) from r ⌝ }
+    ensures { λ r. ⌜
+        Writes (λ es. flat (map moveBytes es)) (12 * moves) (inOrder (λ i. moveRecord modes timers) 0 moves) (now (bytes .entry)) from
+        (now (table .entry)) 136 (now (table .exit)) r
+        ⌝ }
 {
-    let mut sources = [0u8; MOST_MOVES];
-    let mut targets = [0u8; MOST_MOVES];
-    let mut prices = [0u16; MOST_MOVES];
-    let mut guards = [0u8; MOST_MOVES * CONDITIONS];
-    let mut resets = [0u8; MOST_MOVES];
     let mut next = from;
     for i in 0..moves as usize {
-        let e = move_record(bytes, next, modes, timers);
+        let e = move_record(
+            bytes,
+            next,
+            modes,
+            timers,
+            table,
+            MOVE_RECORDS + MOVE_STRIDE * i,
+        );
         if e.refusal != 0 {
-            return Moves {
-                refusal: e.refusal,
-                next,
-                sources,
-                targets,
-                prices,
-                guards,
-                resets,
-            };
+            return e;
         }
-        sources[i] = e.source;
-        targets[i] = e.target;
-        prices[i] = e.price;
-        let conditions = e.conditions;
-        store(&mut guards, CONDITIONS * i, conditions);
-        resets[i] = e.resets;
         next = e.next;
     }
-    Moves {
-        refusal: 0,
-        next,
-        sources,
-        targets,
-        prices,
-        guards,
-        resets,
+    Next { refusal: 0, next }
+}
+
+// All parts, into a table of zeros.
+pub fn contents(bytes: &[u8], table: &mut [u8; TABLE]) -> Next
+    requires { ⌜ now table ≡ replicate 904 0 ⌝ }
+    ensures { λ r. ⌜ Contains (now (bytes .entry)) (now (table .exit)) r ⌝ }
+{
+    let refusal = header(bytes, table);
+    if refusal != 0 {
+        return Next { refusal, next: 0 };
     }
+    let modes = table[MODES];
+    let timers = table[TIMERS];
+    let moves = table[MOVES];
+    let c = ceilings(bytes, timers, table);
+    if c.refusal != 0 {
+        return c;
+    }
+    let m = mode_records(bytes, c.next, timers, modes, table);
+    if m.refusal != 0 {
+        return m;
+    }
+    move_records(bytes, m.next, timers, modes, moves, table)
 }

@@ -1,11 +1,14 @@
 // Whether a table's start is allowed.
 ghost use mathlib.Core.Path.{_≡_};
 ghost use mathlib.Core.List.{_∷_, []};
-ghost use lib.ListN.{take};
+ghost use Prim.Native.Nat.{_≤_};
+ghost use lib.ListN.{length, take, drop};
 ghost use Rattle.semantics.specs.Condition.{holdAtZero};
 ghost use Rattle.reader.specs.Meaning.{conditionsFrom};
 use crate::CONDITIONS;
-use crate::MOST_MODES;
+use crate::table::INVARIANT;
+use crate::table::MODE_RECORDS;
+use crate::table::TABLE;
 
 // Whether a condition byte, or 0 for none, holds of a timer at 0.
 fn holds_at_zero(condition: u8) -> bool
@@ -22,11 +25,12 @@ fn holds_at_zero(condition: u8) -> bool
 }
 
 // Whether the first mode's conditions hold with every timer at 0.
-pub fn start_holds(invariants: [u8; MOST_MODES * CONDITIONS]) -> bool
-    ensures { λ r. ⌜ r ≡ holdAtZero (conditionsFrom 0 (take 6 invariants)) ⌝ }
+pub fn start_holds(table: &[u8; TABLE]) -> bool
+    requires { ⌜ 16 ≤ length (now table) ⌝ }
+    ensures { λ r. ⌜ r ≡ holdAtZero (conditionsFrom 0 (take 6 (drop 10 (now (table .entry))))) ⌝ }
 {
     for i in 0..CONDITIONS {
-        if !holds_at_zero(invariants[i]) {
+        if !holds_at_zero(table[MODE_RECORDS + INVARIANT + i]) {
             return false;
         }
     }

@@ -7,13 +7,13 @@ ghost use lib.ListN.{take};
 ghost use Rattle.semantics.specs.NodeCount.{cellCount, nodeCount};
 ghost use Rattle.semantics.specs.Nodes.Node.{cellNumber, cellAt, nodeOf, nodeNumber, nodeAt};
 ghost use Rattle.reader.specs.Meaning.{automaton};
-ghost use Rattle.reader.specs.Held.{IsTable, fields};
+ghost use Rattle.reader.specs.Opened.{IsTable, fields};
 ghost use Rattle.regions.specs.Held.{mostTimers, view, Valid};
 ghost use Rattle.regions.specs.Nodes.{mostModes, mostCeiling, mostCells, mostCellNumber, mostNodes, CeilingsFew, IsFactor, Padded, bounded, packNode, packAround};
 use crate::Region;
 use crate::tables;
 use crate::tables::CornerAt;
-use reader::Table;
+use reader::opened::Table;
 
 // "E may be at most 65,536."
 pub const MOST_NODES: usize = 65536;

@@ -18,9 +18,9 @@ use Rattle.semantics.specs.Answer.{Answer as Best, route, answer}
 use Rattle.semantics.specs.Paths.Near.{near-best}
 use Rattle.semantics.specs.Answers.Table.{unreached-answer, greedy-answer, greedy-steps}
 use Rattle.semantics.specs.Answers.Forward.{into-least}
-use Rattle.reader.specs.declared.Table.{Table}
+use Rattle.reader.specs.declared.opened.Table.{Table}
 use Rattle.reader.specs.Fields.{mostPrice}
-use Rattle.reader.specs.Theorems.Access.{table-proper}
+use Rattle.reader.specs.Theorems.Opened.{table-proper}
 use Rattle.search.specs.Outcome.{mostNodes, cleared}
 use Rattle.search.specs.declared.near.Cost.{Cost as CostHeld}
 use Rattle.search.specs.declared.places.Place.{Place as PlaceHeld}

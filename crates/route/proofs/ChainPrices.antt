@@ -15,10 +15,10 @@ use Rattle.semantics.specs.Bounds.Prices.{price}
 use Rattle.semantics.specs.Bounds.Steps.{step-view, follow-first, follow-cons}
 use Rattle.semantics.specs.Bounds.Reached.{reached-begin}
 use Rattle.semantics.specs.Answers.Places.{IsPlace, reached-place, place-step}
-use Rattle.reader.specs.declared.Table.{Table}
+use Rattle.reader.specs.declared.opened.Table.{Table}
 use Rattle.reader.specs.Fields.{mostPrice}
-use Rattle.reader.specs.Held.{IsTable}
-use Rattle.reader.specs.Theorems.Access.{table-proper}
+use Rattle.reader.specs.Opened.{IsTable}
+use Rattle.reader.specs.Theorems.Opened.{table-proper}
 use Rattle.search.specs.Regions.{automatonOf}
 use Rattle.search.specs.Laws.Chains.{PricesBelow, step-prices}
 

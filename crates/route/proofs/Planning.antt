@@ -15,14 +15,16 @@ use Rattle.semantics.specs.Graph.Distance.{distance, entryWords}
 use Rattle.semantics.specs.Graph.Near.{turned, near, nearWords}
 use Rattle.semantics.specs.Graph.CornerGraph.{startNode, cornerGraph}
 use Rattle.semantics.specs.Answers.Graph.{graph-nodes}
-use Rattle.reader.specs.declared.Table.{Table}
-use Rattle.reader.specs.declared.Reading.{Reading}
+use Rattle.reader.specs.declared.opened.Table.{Table}
+use Rattle.reader.specs.declared.Verdict.{Verdict}
 use Rattle.reader.specs.declared.Verdict.the-variants.{Accepted, Refused as Verdict·Refused}
 use Rattle.reader.specs.Fields.{Fields}
 use Rattle.reader.specs.Meaning.{automaton}
 use Rattle.reader.specs.Read.{Judgement, accepted, rejected, read}
-use Rattle.reader.specs.Held.{reading, fields, IsTable}
-use Rattle.reader.specs.Theorems.Holding.{fields-held, accepted-range}
+use Rattle.reader.specs.Held.{fieldsOf, verdictOf, Reading}
+use Rattle.reader.specs.Opened.{held, fields, IsTable}
+use Rattle.reader.specs.Theorems.Holding.{fields-held, accepted-fields, accepted-table}
+use Rattle.reader.specs.Theorems.Opened.{opened-fields}
 use Rattle.search.specs.Outcome.{mostNodes}
 use Rattle.search.specs.declared.Searched.{Searched}
 use Rattle.search.specs.declared.Searched.the-variants.{Nodes as Searched·Nodes, Refused as Searched·Refused}
@@ -122,26 +124,23 @@ outcome-keeps bytes ws ws′ rs rs′ r e =
     subst (λ (o : Outcome). KeepsDemand bytes (length ws) (o .route) (o .answer)) (sym e) (planned-keeps bytes ws rs)
 
 -- From the reading of the bytes.
-module _ (bytes : List ℕ) (r : Reading) (is : r ≡ reading (read bytes)) (ws rs : List ℕ) where
+module _ (bytes t : List ℕ) (v : Verdict) (is : Reading (read bytes) v t) (ws rs : List ℕ) where
   -- A refusal of the reader.
-  pub planned-refused : (n : ℕ) → r .verdict ≡ Verdict·Refused n → outcome (Refused n) ws rs ≡ planned bytes ws rs
-  unfolding planned reading
-  planned-refused n met = go (read bytes) (ap (λ (s : Reading). s .verdict) is)
+  pub planned-refused : (n : ℕ) → v ≡ Verdict·Refused n → outcome (Refused n) ws rs ≡ planned bytes ws rs
+  unfolding planned
+  planned-refused n met = go (read bytes) (is .verdict-is)
     where
-      go : (j : Judgement) → r .verdict ≡ reading j .verdict → outcome (Refused n) ws rs ≡ judged j ws rs
+      go : (j : Judgement) → v ≡ verdictOf j → outcome (Refused n) ws rs ≡ judged j ws rs
       go (rejected m) e = let q : n ≡ m = cc in ap (λ (k : ℕ). outcome (Refused k) ws rs) q
       go (accepted f) e = let z : _≡_ {A = ℕ} 0 1 = cc in absurd (omega arith)
 
-  -- A table that was read.
+  -- A table that was read and opened.
   pub planned-accepted :
-      ((i : ℕ) → getD bytes i 0 < 256) → r .verdict ≡ Accepted
-      → plannedTable (automatonOf (r .table)) ws rs ≡ planned bytes ws rs
-  unfolding planned reading
-  planned-accepted small met = go (read bytes) refl is
-    where
-      go : (j : Judgement) → read bytes ≡ j → r ≡ reading j → plannedTable (automatonOf (r .table)) ws rs ≡ judged j ws rs
-      go (rejected m) q e =
-          let v = ap (λ (s : Reading). s .verdict) e in let z : _≡_ {A = ℕ} 0 1 = cc in absurd (omega arith)
-      go (accepted f) q e =
-          ap (λ (f : Fields). plannedTable (automaton f) ws rs)
-          (ap (λ (s : Reading). fields (s .table)) e ∙ fields-held f (accepted-range bytes f small q))
+      ((i : ℕ) → getD bytes i 0 < 256) → v ≡ Accepted → (s : Table) → s ≡ held (fieldsOf t)
+      → plannedTable (automatonOf s) ws rs ≡ planned bytes ws rs
+  unfolding planned
+  planned-accepted small met s e =
+      let a = accepted-fields bytes t v small is met in
+      let same : fields s ≡ a .fields =
+      opened-fields t (accepted-table bytes t v small is met) s e ∙ ap fieldsOf (a .holds) ∙ fields-held (a .fields) (a .range) in
+      ap (λ (f : Fields). plannedTable (automaton f) ws rs) same ∙ sym (ap (λ (j : Judgement). judged j ws rs) (a .accepts))

@@ -9,9 +9,9 @@ use native.Mathlib.Omega.{arith}
 use lib.ListN.{length, getD, take, set, replicate, length-replicate, length-set, getD-replicate}
 use lib.Seq.{length-take-le, take-set-le, getD-set-same, getD-set-other}
 use Rattle.semantics.specs.Chain.{step, follow, begin, chain}
-use Rattle.reader.specs.declared.Table.{Table}
+use Rattle.reader.specs.declared.opened.Table.{Table}
 use Rattle.reader.specs.Fields.{mostPrice}
-use Rattle.reader.specs.Held.{IsTable}
+use Rattle.reader.specs.Opened.{IsTable}
 use Rattle.search.specs.Outcome.{mostNodes}
 use Rattle.search.specs.declared.places.Place.{Place as PlaceHeld}
 use Rattle.search.specs.declared.places.Stepped.{Stepped}

@@ -17,7 +17,7 @@ use Rattle.semantics.specs.Bounds.Reached.{chain-reached}
 use Rattle.semantics.specs.Answers.Places.{number-below}
 use Rattle.semantics.specs.Answers.System.{bytes-below}
 use Rattle.semantics.specs.Answers.Walk.{Walk, walk-deep, walk-back}
-use Rattle.reader.specs.declared.Table.{Table}
+use Rattle.reader.specs.declared.opened.Table.{Table}
 use Rattle.search.specs.declared.places.Place.{Place as PlaceHeld}
 use Rattle.search.specs.Regions.{automatonOf}
 use Rattle.search.specs.Places.{viewPlace, leftWords, IsLeft}

@@ -22,9 +22,9 @@ use Rattle.semantics.specs.Answers.Best.{answer-steps}
 use Rattle.semantics.specs.Answers.Forward.{into-least}
 use Rattle.semantics.specs.Answers.Onward.{step-chain}
 use Rattle.semantics.specs.Answers.Walk.{Walk, walk-begins, walk-few, walk-tried, walk-further, walk-ends}
-use Rattle.reader.specs.declared.Table.{Table}
+use Rattle.reader.specs.declared.opened.Table.{Table}
 use Rattle.reader.specs.Fields.{mostPrice}
-use Rattle.reader.specs.Theorems.Access.{table-proper}
+use Rattle.reader.specs.Theorems.Opened.{table-proper}
 use Rattle.search.specs.Outcome.{mostNodes}
 use Rattle.search.specs.declared.places.Place.{Place as PlaceHeld}
 use Rattle.search.specs.Regions.{automatonOf}

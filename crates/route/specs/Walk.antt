@@ -13,8 +13,8 @@ use Rattle.semantics.specs.Graph.Distance.{distance}
 use Rattle.semantics.specs.Chain.{Place, step, begin, chain}
 use Rattle.semantics.specs.Answer.{route, answer}
 use Rattle.semantics.specs.Answers.Walk.{NearCosts}
-use Rattle.reader.specs.declared.Table.{Table}
-use Rattle.reader.specs.Held.{IsTable}
+use Rattle.reader.specs.declared.opened.Table.{Table}
+use Rattle.reader.specs.Opened.{IsTable}
 use Rattle.search.specs.Outcome.{mostNodes, cleared}
 use Rattle.search.specs.declared.places.Place.{Place as PlaceHeld}
 use Rattle.search.specs.Regions.{automatonOf, graphOf, startOf}

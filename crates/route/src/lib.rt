@@ -2,14 +2,16 @@
 ghost use mathlib.Core.Path.{_≡_};
 ghost use Prim.Native.Nat.{_-_, _≤_, max};
 ghost use lib.ListN.{length};
-ghost use Rattle.reader.specs.Held.{IsTable};
+ghost use Rattle.reader.specs.Opened.{IsTable};
 ghost use Rattle.search.specs.Regions.{automatonOf};
 ghost use Rattle.route.specs.Plan.{outcome, plannedTable, planned};
 ghost use Rattle.route.specs.Promise.{KeepsDemand};
 ghost use Rattle.route.specs.Walk.{Found, ReadOff, WalkReady, Walked, ChooseReady, Choice, RetraceReady, Retraces};
 use reader::MOST_TIMERS;
-use reader::Table;
 use reader::Verdict;
+use reader::opened;
+use reader::opened::Table;
+use reader::table::TABLE;
 use search::INFINITY;
 use search::Searched;
 use search::near;
@@ -42,14 +44,11 @@ pub fn plan(bytes: &[u8], words: &mut [u32], route: &mut [u8]) -> Answer
         ⌝ }
     ensures demand { λ r. ⌜ KeepsDemand (now (bytes .entry)) (length (now (words .entry))) (now (route .exit)) r ⌝ }
 {
-    let reading = reader::read(bytes);
-    let verdict = reading.verdict;
+    let mut table = [0u8; TABLE];
+    let verdict = reader::read(bytes, &mut table);
     match verdict {
         Verdict::Refused(n) => Answer::Refused(n),
-        Verdict::Accepted => {
-            let table = reading.table;
-            plan_table(table, words, route)
-        }
+        Verdict::Accepted => plan_table(opened::opened(&table), words, route),
     }
 }
 

@@ -9,8 +9,8 @@ use Rattle.semantics.specs.Automaton.{timers}
 use Rattle.semantics.specs.Answer.{countFrom}
 use Rattle.semantics.specs.Nodes.Node.{nodeAt}
 use Rattle.semantics.specs.Nodes.Number.{nodeAt-node}
-use Rattle.reader.specs.declared.Table.{Table}
-use Rattle.reader.specs.Theorems.Access.{counts, timer-count, ceilings-are}
+use Rattle.reader.specs.declared.opened.Table.{Table}
+use Rattle.reader.specs.Theorems.Opened.{counts, timer-count, ceilings-are}
 use Rattle.regions.specs.declared.nodes.Around.{Around}
 use Rattle.regions.specs.Held.{mostTimers, view}
 use Rattle.regions.specs.Nodes.{mostNodes, CeilingsFew, Padded, packAround}

@@ -17,8 +17,8 @@ use Rattle.semantics.specs.Paths.Update.{Update, update-none, update-then}
 use Rattle.semantics.specs.Paths.Turned.{turned-nodes}
 use Rattle.semantics.specs.Paths.Ahead.{mostClasses, boundOf, Done, Ahead, Falls, Pass, Charges, pass-wider}
 use Rattle.semantics.specs.Paths.Passes.{ahead-pass, ahead-visited}
-use Rattle.reader.specs.declared.Table.{Table}
-use Rattle.reader.specs.Theorems.Access.{timer-count, mode-count}
+use Rattle.reader.specs.declared.opened.Table.{Table}
+use Rattle.reader.specs.Theorems.Opened.{timer-count, mode-count}
 use Rattle.regions.specs.declared.nodes.Around.{Around}
 use Rattle.search.specs.Classes.{NextDue}
 use Rattle.search.specs.Regions.{automatonOf, graphOf, startOf, Searching, share, RegionAt, AroundAt, RegionAround, Spread, classEnd, Handed}

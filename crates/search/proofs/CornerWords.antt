@@ -16,8 +16,8 @@ use Rattle.semantics.specs.Nodes.Node.{nodeOf, nodeNumber}
 use Rattle.semantics.specs.Graph.CornerGraph.{numberOf}
 use Rattle.semantics.specs.Answers.Places.{number-below}
 use Rattle.semantics.specs.Answers.Moving.{number-row}
-use Rattle.reader.specs.declared.Table.{Table}
-use Rattle.reader.specs.Theorems.Access.{ceilings-are}
+use Rattle.reader.specs.declared.opened.Table.{Table}
+use Rattle.reader.specs.Theorems.Opened.{ceilings-are}
 use Rattle.regions.specs.Held.{view, Valid}
 use Rattle.regions.specs.Nodes.{CeilingsFew, Padded}
 use Rattle.regions.specs.Laws.Fields.{holds, price-at, prices-many, top-few, top-is}

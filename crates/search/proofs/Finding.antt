@@ -27,10 +27,10 @@ use Rattle.semantics.specs.Paths.Ahead.{anyCharge, boundOf, Charges}
 use Rattle.semantics.specs.Paths.Near.{near-words}
 use Rattle.semantics.specs.Paths.Spread.{spread-near}
 use Rattle.semantics.specs.Answers.Graph.{graph-nodes}
-use Rattle.reader.specs.declared.Table.{Table}
+use Rattle.reader.specs.declared.opened.Table.{Table}
 use Rattle.reader.specs.Fields.{mostPrice}
-use Rattle.reader.specs.Held.{IsTable}
-use Rattle.reader.specs.Theorems.Access.{counts, timer-count, ceilings-are}
+use Rattle.reader.specs.Opened.{IsTable}
+use Rattle.reader.specs.Theorems.Opened.{counts, timer-count, ceilings-are}
 use Rattle.regions.specs.declared.Region.{Region}
 use Rattle.regions.specs.Held.{pack, view, Valid}
 use Rattle.regions.specs.Nodes.{mostModes, CeilingsFew, Padded}

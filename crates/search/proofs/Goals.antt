@@ -12,7 +12,7 @@ use Rattle.semantics.specs.Chain.{Place}
 use Rattle.semantics.specs.Graph.CornerGraph.{numberOf, cornerGraph}
 use Rattle.semantics.specs.Answers.Places.{IsPlace, corner-top}
 use Rattle.semantics.specs.Answers.Graph.{graph-target}
-use Rattle.reader.specs.declared.Table.{Table}
+use Rattle.reader.specs.declared.opened.Table.{Table}
 use Rattle.regions.specs.declared.Region.{Region}
 use Rattle.search.specs.Regions.{automatonOf, graphOf, placeOf, RegionAt}
 use Rattle.search.proofs.Graphs.{region-top, corner-number}

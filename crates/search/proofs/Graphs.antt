@@ -19,9 +19,10 @@ use Rattle.semantics.specs.Answers.Moving.{number-row}
 use Rattle.semantics.specs.Answers.Waiting.{Indexed}
 use Rattle.semantics.specs.Graph.Near.{turned}
 use Rattle.semantics.specs.Paths.Update.{Update}
-use Rattle.reader.specs.declared.Table.{Table}
-use Rattle.reader.specs.Held.{IsTable}
-use Rattle.reader.specs.Theorems.Access.{getD-all, table-proper, amounts-within}
+use Rattle.reader.specs.declared.opened.Table.{Table}
+use Rattle.reader.specs.Opened.{IsTable}
+use Rattle.reader.specs.Theorems.Access.{getD-all}
+use Rattle.reader.specs.Theorems.Opened.{table-proper, amounts-within}
 use Rattle.regions.specs.declared.Region.{Region}
 use Rattle.regions.specs.Held.{view, WholeRoom}
 use Rattle.regions.specs.Nodes.{CeilingsFew, Padded}

@@ -20,10 +20,10 @@ use Rattle.semantics.specs.Bounds.Prices.{price}
 use Rattle.semantics.specs.Answers.Places.{IsPlace, corner-top, number-below}
 use Rattle.semantics.specs.Answers.Graph.{graph-nodes}
 use Rattle.semantics.specs.Answers.Moving.{number-row, movedTo, MoveEdge, edge-move, move-edge, moved-place, last-price, first-price}
-use Rattle.reader.specs.declared.Table.{Table}
+use Rattle.reader.specs.declared.opened.Table.{Table}
 use Rattle.reader.specs.Meaning.{namedTimers}
-use Rattle.reader.specs.Held.{IsTable}
-use Rattle.reader.specs.Theorems.Access.{table-proper, counts, move-count, target-below, ceilings-are, move-at, mode-at}
+use Rattle.reader.specs.Opened.{IsTable}
+use Rattle.reader.specs.Theorems.Opened.{table-proper, counts, move-count, target-below, ceilings-are, move-at, mode-at}
 use Rattle.regions.specs.declared.Region.{Region}
 use Rattle.regions.specs.Held.{view}
 use Rattle.regions.specs.Laws.Fields.{holds, top-is, price-at}

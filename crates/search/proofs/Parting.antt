@@ -10,9 +10,9 @@ use Rattle.semantics.specs.Graph.Path.{Target}
 use Rattle.semantics.specs.Paths.Passes.{quotient-range}
 use Rattle.semantics.specs.Paths.Ahead.{mostClasses}
 use Rattle.semantics.specs.Answers.Modes.{graph-goal}
-use Rattle.reader.specs.declared.Table.{Table}
-use Rattle.reader.specs.Held.{IsTable}
-use Rattle.reader.specs.Theorems.Access.{counts}
+use Rattle.reader.specs.declared.opened.Table.{Table}
+use Rattle.reader.specs.Opened.{IsTable}
+use Rattle.reader.specs.Theorems.Opened.{counts}
 use Rattle.regions.specs.Laws.Nodes.{corners-few}
 use Rattle.search.specs.Classes.{ClassCells}
 use Rattle.search.specs.Regions.{automatonOf, graphOf, share}

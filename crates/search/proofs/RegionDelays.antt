@@ -23,8 +23,8 @@ use Rattle.semantics.specs.Answers.Moving.{number-row}
 use Rattle.semantics.specs.Answers.Waiting.{delayedTo, DelayEdge, edge-delay, delay-edge, delay-comes}
 use Rattle.semantics.specs.Answers.WaitingNodes.{delayed-place, delay-above}
 use Rattle.semantics.specs.Paths.Ahead.{mostClasses, RelaxedAt, Pass, pass-none}
-use Rattle.reader.specs.declared.Table.{Table}
-use Rattle.reader.specs.Theorems.Access.{mode-at, mode-count, counts, lengths, ceilings-are}
+use Rattle.reader.specs.declared.opened.Table.{Table}
+use Rattle.reader.specs.Theorems.Opened.{mode-at, mode-count, counts, lengths, ceilings-are}
 use Rattle.regions.specs.declared.Region.{Region}
 use Rattle.regions.specs.Held.{view}
 use Rattle.regions.specs.Nodes.{mostModes, CeilingsFew, Padded}

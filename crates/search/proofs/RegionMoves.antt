@@ -17,11 +17,11 @@ use Rattle.semantics.specs.Nodes.Radix.{factor-pos}
 use Rattle.semantics.specs.Answers.Graph.{graph-nodes}
 use Rattle.semantics.specs.Answers.Moving.{edge-move}
 use Rattle.semantics.specs.Paths.Ahead.{mostClasses, Done, Pass, Charges, charge-lower, pass-none, pass-then, done-kept}
-use Rattle.reader.specs.declared.Table.{Table}
+use Rattle.reader.specs.declared.opened.Table.{Table}
 use Rattle.reader.specs.Fields.{mostPrice}
 use Rattle.reader.specs.Meaning.{namedTimers}
-use Rattle.reader.specs.Held.{IsTable}
-use Rattle.reader.specs.Theorems.Access.{lengths, counts, move-count, move-at, target-below, price-within}
+use Rattle.reader.specs.Opened.{IsTable}
+use Rattle.reader.specs.Theorems.Opened.{lengths, counts, move-count, move-at, target-below, price-within}
 use Rattle.regions.specs.declared.Region.{Region}
 use Rattle.regions.specs.Held.{view, pack, Valid}
 use Rattle.regions.specs.Nodes.{mostModes, CeilingsFew, Padded}

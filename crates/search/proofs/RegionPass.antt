@@ -13,7 +13,7 @@ use Rattle.semantics.specs.Answers.Places.{corner-top, number-node}
 use Rattle.semantics.specs.Answers.Graph.{graph-nodes}
 use Rattle.semantics.specs.Answers.Modes.{modeOfNode, graph-goal}
 use Rattle.semantics.specs.Paths.Ahead.{Done, Charges, charge-lower, pass-wider, pass-then, done-kept}
-use Rattle.reader.specs.declared.Table.{Table}
+use Rattle.reader.specs.declared.opened.Table.{Table}
 use Rattle.regions.specs.declared.Region.{Region}
 use Rattle.regions.specs.Held.{view}
 use Rattle.search.specs.Regions.{automatonOf, graphOf, startOf, Searching, placeOf, RegionAt, Spread, classEnd, MovesAt, WaitsAt, Handed}

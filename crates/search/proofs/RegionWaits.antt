@@ -23,7 +23,7 @@ use Rattle.semantics.specs.Answers.Modes.{modeOfNode, graph-goal}
 use Rattle.semantics.specs.Answers.WaitingNodes.{empty-fewer, edge-linger, linger-edge, wait-label}
 use Rattle.semantics.specs.Paths.Sound.{relaxed-loop}
 use Rattle.semantics.specs.Paths.Ahead.{Charges, Done, Pass, charge-lower, pass-none, pass-wider, pass-then, done-kept}
-use Rattle.reader.specs.declared.Table.{Table}
+use Rattle.reader.specs.declared.opened.Table.{Table}
 use Rattle.regions.specs.declared.Region.{Region}
 use Rattle.regions.specs.Held.{pack, view, PriceRoom, WholeRoom}
 use Rattle.regions.specs.Laws.Fields.{holds, top-is, top-few, prices-many}

@@ -18,9 +18,9 @@ use Rattle.semantics.specs.Graph.CornerGraph.{numberOf}
 use Rattle.semantics.specs.Answers.Places.{IsPlace, corner-top, corner-node}
 use Rattle.semantics.specs.Answers.Moving.{number-row}
 use Rattle.semantics.specs.Paths.Ahead.{mostClasses}
-use Rattle.reader.specs.declared.Table.{Table}
-use Rattle.reader.specs.Held.{IsTable}
-use Rattle.reader.specs.Theorems.Access.{counts, mode-count, timer-count}
+use Rattle.reader.specs.declared.opened.Table.{Table}
+use Rattle.reader.specs.Opened.{IsTable}
+use Rattle.reader.specs.Theorems.Opened.{counts, mode-count, timer-count}
 use Rattle.regions.specs.declared.Region.{Region}
 use Rattle.regions.specs.Laws.Nodes.{corners-few}
 use Rattle.search.specs.Regions.{automatonOf, Classes, classEnd, placeOf, RegionAt}

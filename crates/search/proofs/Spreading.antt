@@ -21,9 +21,9 @@ use Rattle.semantics.specs.Paths.Ahead.{mostClasses, anyCharge, noted, boundOf,
 use Rattle.semantics.specs.Paths.Passes.{ahead-seeded, ahead-seeded-goal, ahead-ends, ahead-begin, ahead-goal, ahead-spread}
 use Rattle.semantics.specs.Answers.Graph.{graph-nodes}
 use Rattle.semantics.specs.Answers.Modes.{graph-goal}
-use Rattle.reader.specs.declared.Table.{Table}
-use Rattle.reader.specs.Held.{IsTable}
-use Rattle.reader.specs.Theorems.Access.{counts, lengths, mode-at}
+use Rattle.reader.specs.declared.opened.Table.{Table}
+use Rattle.reader.specs.Opened.{IsTable}
+use Rattle.reader.specs.Theorems.Opened.{counts, lengths, mode-at}
 use Rattle.search.specs.Classes.{OwnMoves, ClassCells, NextPending}
 use Rattle.search.specs.Regions.{automatonOf, graphOf, startOf, Classes}
 use Rattle.search.specs.Spread.{ClassAt, ClassSpread, SpreadAt, SpreadWords}

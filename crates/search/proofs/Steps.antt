@@ -12,11 +12,11 @@ use lib.ListN.{length, getD, take}
 use Rattle.semantics.specs.Automaton.{Automaton}
 use Rattle.semantics.specs.Region.{PricedRegion, delay, linger, resetAll, charge, meetsAll, within}
 use Rattle.semantics.specs.Chain.{Place, onlyIf, delayStep, lingerStep, moveStep, step}
-use Rattle.reader.specs.declared.Table.{Table}
+use Rattle.reader.specs.declared.opened.Table.{Table}
 use Rattle.reader.specs.Meaning.{namedTimers}
-use Rattle.reader.specs.Held.{IsTable}
-use Rattle.reader.specs.Theorems.Access.{counts, lengths, mode-count, timer-count, move-count, mode-at, move-at}
-use Rattle.reader.specs.Theorems.Access.{rate-within, price-within, target-below, ceilings-are}
+use Rattle.reader.specs.Opened.{IsTable}
+use Rattle.reader.specs.Theorems.Opened.{counts, lengths, mode-count, timer-count, move-count, mode-at, move-at}
+use Rattle.reader.specs.Theorems.Opened.{rate-within, price-within, target-below, ceilings-are}
 use Rattle.regions.specs.declared.Region.{Region}
 use Rattle.regions.specs.Held.{pack, view, Valid, PriceRoom, WholeRoom}
 use Rattle.regions.specs.Nodes.{Padded}

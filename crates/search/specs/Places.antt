@@ -15,8 +15,8 @@ use Rattle.semantics.specs.NodeCount.{nodeCount}
 use Rattle.semantics.specs.Chain.{Place, step, moveStep, delayStep, lingerStep}
 use Rattle.semantics.specs.Graph.CornerGraph.{numberOf}
 use Rattle.semantics.specs.Answers.Places.{IsPlace}
-use Rattle.reader.specs.declared.Table.{Table}
-use Rattle.reader.specs.Held.{IsTable}
+use Rattle.reader.specs.declared.opened.Table.{Table}
+use Rattle.reader.specs.Opened.{IsTable}
 use Rattle.regions.specs.Held.{pack, view, Valid, PriceRoom}
 use Rattle.regions.specs.Nodes.{mostNodes}
 use Rattle.search.specs.declared.places.Place.{Place as PlaceHeld}

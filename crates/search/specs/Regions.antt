@@ -18,9 +18,9 @@ use Rattle.semantics.specs.Answers.Places.{IsPlace}
 use Rattle.semantics.specs.Answers.Modes.{modeOfNode}
 use Rattle.semantics.specs.Paths.Sound.{Sound}
 use Rattle.semantics.specs.Paths.Ahead.{mostClasses, Done, Pass}
-use Rattle.reader.specs.declared.Table.{Table}
+use Rattle.reader.specs.declared.opened.Table.{Table}
 use Rattle.reader.specs.Meaning.{automaton}
-use Rattle.reader.specs.Held.{fields, IsTable}
+use Rattle.reader.specs.Opened.{fields, IsTable}
 use Rattle.regions.specs.declared.Region.{Region}
 use Rattle.regions.specs.Held.{view, Valid}
 use Rattle.regions.specs.Nodes.{mostNodes}

@@ -10,7 +10,7 @@ use Rattle.semantics.specs.Paths.Update.{Blank, Update}
 use Rattle.semantics.specs.Paths.Seed.{Seeded}
 use Rattle.semantics.specs.Paths.Spread.{Spread as SpreadTo}
 use Rattle.semantics.specs.Paths.Ahead.{boundOf, Ahead, BoundFound, Falls}
-use Rattle.reader.specs.declared.Table.{Table}
+use Rattle.reader.specs.declared.opened.Table.{Table}
 use Rattle.search.specs.Regions.{graphOf, startOf, Searching, share, Handed}
 
 -- A class of the mode, which is taken: its nodes that are charged at least low are to come.

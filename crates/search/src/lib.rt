@@ -1,7 +1,7 @@
 // Layer 3: the search for the least charge into a goal mode, and the places of chains that a route is made of.
 ghost use mathlib.Core.Path.{_≡_};
 ghost use lib.ListN.{length};
-ghost use Rattle.reader.specs.Held.{IsTable};
+ghost use Rattle.reader.specs.Opened.{IsTable};
 ghost use Rattle.search.specs.Regions.{automatonOf};
 ghost use Rattle.search.specs.Outcome.{answered, searched, cleared};
 ghost use Rattle.search.specs.Seeding.{SeedRoom, Seeds};
@@ -16,7 +16,7 @@ mod spread;
 mod waits;
 mod words;
 
-use reader::Table;
+use reader::opened::Table;
 use regions::Region;
 use regions::nodes;
 use regions::nodes::Nodes;

@@ -1,12 +1,12 @@
 // Places of chains by value: what a route needs of regions, in terms of chains. The arrays of the table are lent.
 ghost use mathlib.Core.Path.{_≡_};
 ghost use Rattle.semantics.specs.Chain.{begin};
-ghost use Rattle.reader.specs.Held.{IsTable};
+ghost use Rattle.reader.specs.Opened.{IsTable};
 ghost use Rattle.search.specs.Regions.{automatonOf};
 ghost use Rattle.search.specs.Places.{packPlace, NextReady, IsNext, StepReady, IsStep, MoveStepReady, IsMoveStep, DelayStepReady, IsDelayStep, LingerStepReady, IsLingerStep, WordsReady, IsStanding, IsLeft};
 use crate::INFINITY;
 use crate::conditions;
-use reader::Table;
+use reader::opened::Table;
 use regions::Region;
 use regions::nodes;
 

@@ -1,27 +1,25 @@
--- What the arrays of a table say of its automaton: its counts, the lengths of the arrays, a mode and a move by their numbers.
+-- What the bytes of a table say of its automaton: its counts, a mode and a move by their numbers.
 -- Assumes nothing.
 use Prim.Native.Nat.{ℕ, zero, suc, _+_, _*_, _-_, _≤_, _<_}
-use native.Mathlib.Nat.{suc-mul}
+use native.Mathlib.Nat.{add-zero, mul-zero, mul-suc}
 use native.Mathlib.Omega.{arith}
 use mathlib.Core.Path.{_≡_, refl, sym, ap, ap₂, _∙_}
-use mathlib.Core.List.{List, [], _∷_, _++_, map, List·Memᴰ}
-use lib.ListN.{length, getD, take, drop, replicate, length-map, length-append, length-replicate}
-use lib.Seq.{getD-drop, drop-drop}
+use mathlib.Core.List.{List, [], _∷_, _++_, List·Memᴰ}
+use lib.ListN.{length, getD, take, drop, replicate, length-map, List·getD-map}
+use lib.Seq.{getD-take, getD-drop, drop-drop}
+use Rattle.semantics.specs.Condition.{holdAtZero}
 use Rattle.semantics.specs.Automata.Proper.{Proper}
-use Rattle.semantics.specs.Automaton.{Mode, Move, timers, modeAt, moveAt}
+use Rattle.semantics.specs.Automaton.{Mode, Move, timers, modeAt, moveAt, startHolds}
 use Rattle.semantics.specs.Graph.CornerGraph.{PricesWithin}
 use Rattle.semantics.specs.Corners.Lists.{mem-getD}
 use Rattle.semantics.specs.Regions.Lists.{replicate-zero}
-use Rattle.reader.specs.declared.Table.{Table}
 use Rattle.reader.specs.Fields.{mostPrice, ModeFields, MoveFields, Fields}
-use Rattle.reader.specs.Meaning.{modeOf, moveOf, automaton}
-use Rattle.reader.specs.Held.{pad, flat, held, fields, modesFrom, movesFrom, InRange, IsTable}
+use Rattle.reader.specs.Meaning.{conditionsFrom, modeOf, moveOf, automaton}
+use Rattle.reader.specs.Held.{pad, held, modeFrom, moveFrom, recordsFrom, fieldsOf, automatonOf, modeFieldsAt, moveFieldsAt, IsTable}
 use Rattle.reader.specs.Theorems.Rows.{map-all}
+use Rattle.reader.specs.Theorems.Holding.{range-shaped, held-length}
 
--- An array with 0 behind its list: its length, and what is read from it.
-pub length-pad : (n : ℕ) (l : List ℕ) → length l ≤ n → length (pad n l) ≡ n
-length-pad n l h = let behind = n - length l in omega (arith, length-append l (replicate behind 0), length-replicate {A = ℕ} behind 0)
-
+-- What is read from an array with 0 behind its list.
 getD-zeros : (l : List ℕ) (k i : ℕ) → getD (l ++ replicate k 0) i 0 ≡ getD l i 0
 getD-zeros [] k i = replicate-zero k i
 getD-zeros (x ∷ l) k zero = refl
@@ -36,173 +34,155 @@ getD-all D [] h z i = z
 getD-all D (c ∷ l) h z zero = h c (List·Memᴰ.List·Memᴰ·head refl)
 getD-all D (c ∷ l) h z (suc i) = getD-all D l (λ d m. h d (List·Memᴰ.List·Memᴰ·tail m)) z i
 
--- Rows of six, one after another.
-rows-length : {A : Type 0} (row : A → List ℕ) (l : List A) → ((a : A) → List·Memᴰ a l → length (row a) ≡ 6) → length (flat (map row l)) ≡ length l * 6
-rows-length row [] h = refl
-rows-length row (a ∷ l) h =
-    omega (
-      arith,
-      length-append (row a) (flat (map row l)),
-      h a (List·Memᴰ.List·Memᴰ·head refl),
-      rows-length row l (λ b m. h b (List·Memᴰ.List·Memᴰ·tail m)),
-      suc-mul (length l) 6,
-    )
+-- The record of a number.
+record-at : {A : Type 0} (one : List ℕ → A) (k n : ℕ) (t : List ℕ) (d : A) (i : ℕ) → i < n → getD (recordsFrom one k n t) i d ≡ one (drop (k * i) t)
+record-at one k zero t d i h = absurd (omega arith)
+record-at one k (suc n) t d zero h = ap (λ (j : ℕ). one (drop j t)) (sym (mul-zero k))
+record-at one k (suc n) t d (suc i) h =
+    let further : k + k * i ≡ k * suc i = omega (arith, mul-suc k i) in
+    record-at one k n (drop k t) d i (omega arith) ∙ ap one (drop-drop (k * i) k t ∙ ap (λ (j : ℕ). drop j t) further)
 
--- One entry further in an array, and six.
-next-entry : (l : List ℕ) (i : ℕ) → getD (drop 1 l) i 0 ≡ getD l (suc i) 0
-next-entry l i = let further : 1 + i ≡ suc i = omega arith in getD-drop 1 l i 0 ∙ ap (λ (k : ℕ). getD l k 0) further
+-- The fields of a mode and of a move by their numbers, and the mode and the move.
+module _ (t : List ℕ) where
+  pub mode-fields-at : (m : ℕ) → m < getD t 0 0 → modeFieldsAt (fieldsOf t) m ≡ modeFrom (drop (8 + 8 * m) t)
+  unfolding fieldsOf
+  mode-fields-at m h = record-at modeFrom 8 (getD t 0 0) (drop 8 t) _ m h ∙ ap modeFrom (drop-drop (8 * m) 8 t)
 
-next-row : (l : List ℕ) (i : ℕ) → take 6 (drop (6 * i) (drop 6 l)) ≡ take 6 (drop (6 * suc i) l)
-next-row l i =
-    let further : 6 + 6 * i ≡ 6 * suc i = omega arith in
-    ap (take 6) (drop-drop (6 * i) 6 l ∙ ap (λ (k : ℕ). drop k l) further)
+  pub move-fields-at : (e : ℕ) → e < getD t 2 0 → moveFieldsAt (fieldsOf t) e ≡ moveFrom (drop (136 + 12 * e) t)
+  unfolding fieldsOf
+  move-fields-at e h = record-at moveFrom 12 (getD t 2 0) (drop 136 t) _ e h ∙ ap moveFrom (drop-drop (12 * e) 136 t)
 
--- The mode of a number by the arrays, and the move.
-mode-from : (n : ℕ) (rates invariants : List ℕ) (d : Mode) (m : ℕ) → m < n →
-    getD (map modeOf (modesFrom n rates invariants)) m d ≡ modeOf (record { rate = getD rates m 0; conditions = take 6 (drop (6 * m) invariants) })
-mode-from zero rates invariants d m h = absurd (omega arith)
-mode-from (suc n) rates invariants d zero h = refl
-mode-from (suc n) rates invariants d (suc m) h =
-    mode-from n (drop 1 rates) (drop 6 invariants) d m (omega arith)
-    ∙ ap₂ (λ (r : ℕ) (c : List ℕ). modeOf (record { rate = r; conditions = c })) (next-entry rates m) (next-row invariants m)
+pub mode-of-fields : (f : Fields) (m : ℕ) → modeAt (automaton f) m ≡ modeOf (modeFieldsAt f m)
+mode-of-fields f m = List·getD-map modeOf (f .modes) m _
 
-abbrev moveFrom : List ℕ → List ℕ → List ℕ → List ℕ → List ℕ → ℕ → MoveFields
-moveFrom sources targets prices guards resets e = record {
-  source = getD sources e 0;
-  target = getD targets e 0;
-  price = getD prices e 0;
-  conditions = take 6 (drop (6 * e) guards);
-  resets = getD resets e 0;
-}
+pub move-of-fields : (f : Fields) (e : ℕ) → moveAt (automaton f) e ≡ moveOf (moveFieldsAt f e)
+move-of-fields f e = List·getD-map moveOf (f .moves) e _
 
-next-move : (s t p g r : List ℕ) (e : ℕ) → moveFrom (drop 1 s) (drop 1 t) (drop 1 p) (drop 6 g) (drop 1 r) e ≡ moveFrom s t p g r (suc e)
-next-move s t p g r e = λ i. record {
-  source = next-entry s e i;
-  target = next-entry t e i;
-  price = next-entry p e i;
-  conditions = next-row g e i;
-  resets = next-entry r e i;
-}
+module _ (t : List ℕ) where
+  pub mode-at : (m : ℕ) → m < getD t 0 0 → modeAt (automatonOf t) m ≡ modeOf (modeFrom (drop (8 + 8 * m) t))
+  mode-at m h = mode-of-fields (fieldsOf t) m ∙ ap modeOf (mode-fields-at t m h)
 
-move-from : (n : ℕ) (s t p g r : List ℕ) (d : Move) (e : ℕ) → e < n → getD (map moveOf (movesFrom n s t p g r)) e d ≡ moveOf (moveFrom s t p g r e)
-move-from zero s t p g r d e h = absurd (omega arith)
-move-from (suc n) s t p g r d zero h = refl
-move-from (suc n) s t p g r d (suc e) h =
-    move-from n (drop 1 s) (drop 1 t) (drop 1 p) (drop 6 g) (drop 1 r) d e (omega arith) ∙ ap moveOf (next-move s t p g r e)
+  pub move-at : (e : ℕ) → e < getD t 2 0 → moveAt (automatonOf t) e ≡ moveOf (moveFrom (drop (136 + 12 * e) t))
+  move-at e h = move-of-fields (fieldsOf t) e ∙ ap moveOf (move-fields-at t e h)
 
--- The lengths of the arrays.
-pub record Lengths (t : Table) : Type 0 where
-  pub ceilings-length : length (t .ceilings) ≡ 3
-  pub rates-length : length (t .rates) ≡ 16
-  pub invariants-length : length (t .invariants) ≡ 96
-  pub sources-length : length (t .sources) ≡ 64
-  pub targets-length : length (t .targets) ≡ 64
-  pub prices-length : length (t .prices) ≡ 64
-  pub guards-length : length (t .guards) ≡ 384
-  pub resets-length : length (t .resets) ≡ 64
+  -- Mode 0's conditions.
+  pub start-at : 0 < getD t 0 0 → startHolds (automatonOf t) ≡ holdAtZero (conditionsFrom 0 (take 6 (drop 10 t)))
+  start-at h =
+      ap (λ (m : Mode). holdAtZero (m .conditions)) (mode-at 0 h)
+      ∙ ap (λ (l : List ℕ). holdAtZero (conditionsFrom 0 (take 6 l))) (drop-drop 2 8 t)
 
-held-lengths : (f : Fields) → InRange f → Lengths (held f)
-unfolding held
-held-lengths f k =
-    let modes-few = k .modes-range .1 in
-    let of-modes : (g : ModeFields → ℕ) → length (pad 16 (map g (f .modes))) ≡ 16 =
-    λ g. length-pad 16 (map g (f .modes)) (omega (arith, length-map (f .modes) g, modes-few)) in
-    let of-moves : (g : MoveFields → ℕ) → length (pad 64 (map g (f .moves))) ≡ 64 =
-    λ g. length-pad 64 (map g (f .moves)) (omega (arith, length-map (f .moves) g, k .moves-range)) in
-    record {
-      ceilings-length = length-pad 3 (f .ceilings) (k .timers-range .1);
-      rates-length = of-modes (λ m. m .rate);
-      invariants-length =
-          length-pad 96 (flat (map (λ m. m .conditions) (f .modes))) (omega (arith, rows-length (λ m. m .conditions) (f .modes) (k .six-invariants), modes-few));
-      sources-length = of-moves (λ e. e .source);
-      targets-length = of-moves (λ e. e .target);
-      prices-length = of-moves (λ e. e .price);
-      guards-length =
-          length-pad 384 (flat (map (λ e. e .conditions) (f .moves))) (omega (arith, rows-length (λ e. e .conditions) (f .moves) (k .six-guards), k .moves-range));
-      resets-length = of-moves (λ e. e .resets);
-    }
-
-module _ (t : Table) (h : IsTable t) where
-  pub table-proper : Proper (automaton (fields t))
+module _ (t : List ℕ) (h : IsTable t) where
+  pub table-proper : Proper (automatonOf t)
   table-proper = h .range .proper
 
-  -- The counts.
-  pub move-count : t .moves ≡ length (automaton (fields t) .moves)
-  unfolding held
-  move-count = ap (λ (u : Table). u .moves) (h .holds) ∙ sym (length-map (fields t .moves) moveOf)
+  pub table-length : length t ≡ 904
+  table-length = ap length (h .holds) ∙ held-length (fieldsOf t) (range-shaped (fieldsOf t) (h .range))
 
-  pub mode-count : t .modes ≡ length (automaton (fields t) .modes)
+  -- The counts and the goal.
+  pub mode-count : getD t 0 0 ≡ length (automatonOf t .modes)
   unfolding held
-  mode-count = ap (λ (u : Table). u .modes) (h .holds) ∙ sym (length-map (fields t .modes) modeOf)
+  mode-count = ap (λ (u : List ℕ). getD u 0 0) (h .holds) ∙ sym (length-map (fieldsOf t .modes) modeOf)
 
-  pub timer-count : t .timers ≡ timers (automaton (fields t))
+  pub timer-count : getD t 1 0 ≡ timers (automatonOf t)
   unfolding held
-  timer-count = ap (λ (u : Table). u .timers) (h .holds)
+  timer-count = ap (λ (u : List ℕ). getD u 1 0) (h .holds)
 
-  pub counts : (1 ≤ t .modes) × (t .modes ≤ 16) × (1 ≤ t .timers) × (t .timers ≤ 3) × (t .moves ≤ 64)
+  pub move-count : getD t 2 0 ≡ length (automatonOf t .moves)
+  unfolding held
+  move-count = ap (λ (u : List ℕ). getD u 2 0) (h .holds) ∙ sym (length-map (fieldsOf t .moves) moveOf)
+
+  pub goal-is : getD t 3 0 ≡ automatonOf t .goal
+  unfolding fieldsOf
+  goal-is = refl
+
+  pub counts : (1 ≤ getD t 0 0) × (getD t 0 0 ≤ 16) × (1 ≤ getD t 1 0) × (getD t 1 0 ≤ 3) × (getD t 2 0 ≤ 64) × (getD t 3 0 < getD t 0 0)
   counts =
       omega (
         arith,
         mode-count,
         timer-count,
         move-count,
-        length-map (fields t .modes) modeOf,
-        length-map (fields t .moves) moveOf,
+        goal-is,
+        length-map (fieldsOf t .modes) modeOf,
+        length-map (fieldsOf t .moves) moveOf,
         h .range .modes-range,
         h .range .timers-range,
         h .range .moves-range,
+        table-proper .goal-there,
       )
 
-  pub lengths : Lengths t
-  lengths = rw (h .holds) (held-lengths (fields t) (h .range))
-
-  pub ceilings-are : automaton (fields t) .ceilings ≡ take (t .timers) (t .ceilings)
-  unfolding fields
+  pub ceilings-are : automatonOf t .ceilings ≡ take (getD t 1 0) (drop 4 t)
+  unfolding fieldsOf
   ceilings-are = refl
 
-  -- A move by its number, and a mode.
-  pub move-at : (e : ℕ) → e < t .moves → moveAt (automaton (fields t)) e ≡ moveOf (record {
-    source = getD (t .sources) e 0;
-    target = getD (t .targets) e 0;
-    price = getD (t .prices) e 0;
-    conditions = take 6 (drop (6 * e) (t .guards));
-    resets = getD (t .resets) e 0;
-  })
-  unfolding fields
-  move-at e k = move-from (t .moves) (t .sources) (t .targets) (t .prices) (t .guards) (t .resets) _ e k
+  pub ceiling-at : (x : ℕ) → x < timers (automatonOf t) → getD (automatonOf t .ceilings) x 0 ≡ getD t (4 + x) 0
+  ceiling-at x k =
+      ap (λ (l : List ℕ). getD l x 0) ceilings-are ∙ getD-take (getD t 1 0) (drop 4 t) x 0 (omega (arith, timer-count)) ∙ getD-drop 4 t x 0
 
-  pub mode-at : (m : ℕ) → m < t .modes →
-      modeAt (automaton (fields t)) m ≡ modeOf (record { rate = getD (t .rates) m 0; conditions = take 6 (drop (6 * m) (t .invariants)) })
-  unfolding fields
-  mode-at m k = mode-from (t .modes) (t .rates) (t .invariants) _ m k
-
-  -- The modes that a move names are there.
-  named-move : (e : ℕ) → e < t .moves → List·Memᴰ (moveAt (automaton (fields t)) e) (automaton (fields t) .moves)
-  named-move e k = mem-getD (automaton (fields t) .moves) e _ (omega (arith, move-count))
-
-  pub source-below : (e : ℕ) → e < t .moves → getD (t .sources) e 0 < t .modes
-  source-below e k = omega (arith, table-proper .source-there _ (named-move e k), ap (λ (m : Move). m .source) (move-at e k), mode-count)
-
-  pub target-below : (e : ℕ) → e < t .moves → getD (t .targets) e 0 < t .modes
-  target-below e k = omega (arith, table-proper .target-there _ (named-move e k), ap (λ (m : Move). m .target) (move-at e k), mode-count)
-
-  -- Prices and rates are within the bound; behind the last there is 0.
-  pub price-within : (e : ℕ) → getD (t .prices) e 0 ≤ mostPrice
-  unfolding held
-  price-within e =
-      let prices = map (λ m. m .price) (fields t .moves) in
-      let read : getD (t .prices) e 0 ≡ getD prices e 0 = ap (λ (u : Table). getD (u .prices) e 0) (h .holds) ∙ getD-pad 64 prices e in
-      rw read (getD-all (λ c. c ≤ mostPrice) prices (map-all (λ m. m .price) (λ c. c ≤ mostPrice) (fields t .moves) (h .range .prices-range)) (omega arith) e)
-
-  pub rate-within : (m : ℕ) → getD (t .rates) m 0 ≤ mostPrice
-  unfolding held
-  rate-within m =
-      let rates = map (λ o. o .rate) (fields t .modes) in
-      let read : getD (t .rates) m 0 ≡ getD rates m 0 = ap (λ (u : Table). getD (u .rates) m 0) (h .holds) ∙ getD-pad 16 rates m in
-      rw read (getD-all (λ c. c ≤ mostPrice) rates (map-all (λ o. o .rate) (λ c. c ≤ mostPrice) (fields t .modes) (h .range .rates-range)) (omega arith) m)
-
-  pub amounts-within : PricesWithin (automaton (fields t)) mostPrice
+  -- Prices and rates are within the bound.
+  pub amounts-within : PricesWithin (automatonOf t) mostPrice
   amounts-within = record {
-    rates = map-all modeOf (λ o. o .rate ≤ mostPrice) (fields t .modes) (h .range .rates-range);
-    prices = map-all moveOf (λ e. e .price ≤ mostPrice) (fields t .moves) (h .range .prices-range);
+    rates = map-all modeOf (λ o. o .rate ≤ mostPrice) (fieldsOf t .modes) (h .range .rates-range);
+    prices = map-all moveOf (λ e. e .price ≤ mostPrice) (fieldsOf t .moves) (h .range .prices-range);
   }
+
+  -- A byte and two bytes of a record that begins at k.
+  byte-at : (k j : ℕ) → getD (drop k t) j 0 ≡ getD t (k + j) 0
+  byte-at k j = getD-drop k t j 0
+
+  first-at : (k : ℕ) → getD (drop k t) 0 0 ≡ getD t k 0
+  first-at k = byte-at k 0 ∙ ap (λ (j : ℕ). getD t j 0) (add-zero k)
+
+  condition-at : (k a i : ℕ) → i < 6 → getD (take 6 (drop a (drop k t))) i 0 ≡ getD t (k + a + i) 0
+  condition-at k a i l = getD-take 6 (drop a (drop k t)) i 0 l ∙ ap (λ (u : List ℕ). getD u i 0) (drop-drop a k t) ∙ getD-drop (k + a) t i 0
+
+  -- A mode by its number.
+  module _ (m : ℕ) (k : m < length (automatonOf t .modes)) where
+    mode-there : m < getD t 0 0
+    mode-there = omega (arith, mode-count)
+
+    pub rate-at : modeAt (automatonOf t) m .rate ≡ getD t (8 + 8 * m) 0 + 256 * getD t (8 + 8 * m + 1) 0
+    rate-at =
+        ap (λ (o : Mode). o .rate) (mode-at t m mode-there)
+        ∙ ap₂ (λ (a b : ℕ). a + 256 * b) (first-at (8 + 8 * m)) (byte-at (8 + 8 * m) 1)
+
+    pub rate-within : modeAt (automatonOf t) m .rate ≤ mostPrice
+    rate-within = amounts-within .rates _ (mem-getD (automatonOf t .modes) m _ k)
+
+    pub invariant-at : (i : ℕ) → i < 6 → getD (modeFieldsAt (fieldsOf t) m .conditions) i 0 ≡ getD t (8 + 8 * m + 2 + i) 0
+    invariant-at i l = ap (λ (o : ModeFields). getD (o .conditions) i 0) (mode-fields-at t m mode-there) ∙ condition-at (8 + 8 * m) 2 i l
+
+  -- A move by its number. The modes that it names are there.
+  module _ (e : ℕ) (k : e < length (automatonOf t .moves)) where
+    move-there : e < getD t 2 0
+    move-there = omega (arith, move-count)
+
+    pub source-at : moveAt (automatonOf t) e .source ≡ getD t (136 + 12 * e) 0
+    source-at = ap (λ (o : Move). o .source) (move-at t e move-there) ∙ first-at (136 + 12 * e)
+
+    pub target-at : moveAt (automatonOf t) e .target ≡ getD t (136 + 12 * e + 1) 0
+    target-at = ap (λ (o : Move). o .target) (move-at t e move-there) ∙ byte-at (136 + 12 * e) 1
+
+    pub price-at : moveAt (automatonOf t) e .price ≡ getD t (136 + 12 * e + 2) 0 + 256 * getD t (136 + 12 * e + 2 + 1) 0
+    price-at =
+        let next : 136 + 12 * e + 3 ≡ 136 + 12 * e + 2 + 1 = omega arith in
+        ap (λ (o : Move). o .price) (move-at t e move-there)
+        ∙ ap₂ (λ (a b : ℕ). a + 256 * b) (byte-at (136 + 12 * e) 2) (byte-at (136 + 12 * e) 3 ∙ ap (λ (j : ℕ). getD t j 0) next)
+
+    pub guard-at : (i : ℕ) → i < 6 → getD (moveFieldsAt (fieldsOf t) e .conditions) i 0 ≡ getD t (136 + 12 * e + 4 + i) 0
+    guard-at i l = ap (λ (o : MoveFields). getD (o .conditions) i 0) (move-fields-at t e move-there) ∙ condition-at (136 + 12 * e) 4 i l
+
+    pub resets-at : moveFieldsAt (fieldsOf t) e .resets ≡ getD t (136 + 12 * e + 10) 0
+    resets-at = ap (λ (o : MoveFields). o .resets) (move-fields-at t e move-there) ∙ byte-at (136 + 12 * e) 10
+
+    named-move : List·Memᴰ (moveAt (automatonOf t) e) (automatonOf t .moves)
+    named-move = mem-getD (automatonOf t .moves) e _ k
+
+    pub source-below : moveAt (automatonOf t) e .source < length (automatonOf t .modes)
+    source-below = table-proper .source-there _ named-move
+
+    pub target-below : moveAt (automatonOf t) e .target < length (automatonOf t .modes)
+    target-below = table-proper .target-there _ named-move
+
+    pub price-within : moveAt (automatonOf t) e .price ≤ mostPrice
+    price-within = amounts-within .prices _ named-move

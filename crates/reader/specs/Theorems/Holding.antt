@@ -1,59 +1,156 @@
--- The struct of an accepted table is a table, and holds the fields that were read.
+-- The bytes of an accepted table are a table, and hold the fields that were read.
 -- Assumes nothing.
-use Prim.Native.Nat.{ℕ, _<_}
+use Prim.Native.Nat.{ℕ, _+_, _*_, _-_, _/_, _%_, _≤_, _<_}
+use native.Mathlib.Nat.{suc-mul, zero-mul}
+use native.Mathlib.Omega.{arith}
 use mathlib.Core.Path.{_≡_, refl, sym, ap, ap₂, subst, _∙_}
-use mathlib.Core.Bool.{true≢false}
 use mathlib.Core.List.{List, [], _∷_, _++_, map, append-assoc, List·Memᴰ}
-use lib.ListN.{length, getD, take, drop}
-use lib.Seq.{take-at, drop-at, take-append-seam}
-use Rattle.reader.specs.declared.Reading.{Reading}
+use lib.ListN.{length, getD, take, drop, replicate, length-append, length-replicate}
+use lib.Seq.{take-at, drop-at, drop-drop, getD-at, take-append-seam}
+use Rattle.reader.specs.declared.Verdict.{Verdict}
 use Rattle.reader.specs.declared.Verdict.the-variants.{Accepted}
 use Rattle.reader.specs.Fields.{ModeFields, MoveFields, Fields}
+use Rattle.reader.specs.Layout.{Layout}
 use Rattle.reader.specs.Read.{Judgement, accepted, rejected, read}
-use Rattle.reader.specs.Held.{flat, held, reading, fields, modesFrom, movesFrom, InRange, IsTable}
+use Rattle.reader.specs.Held.{pad, flat, modeBytes, moveBytes, held, modeFrom, moveFrom, recordsFrom, fieldsOf, InRange, IsTable, Reading}
 use Rattle.reader.specs.Theorems.Accepts.{accepts}
 use Rattle.reader.specs.Theorems.Limits.{accepted-bounded}
 use Rattle.reader.specs.Theorems.Rows.{row-all}
 use Rattle.reader.specs.Theorems.Proper.{layout-proper}
 
--- The first six of the rows, and the others.
-first-row : (c rest behind : List ℕ) → length c ≡ 6 → take 6 ((c ++ rest) ++ behind) ≡ c
-first-row c rest behind h = ap (take 6) (append-assoc c rest behind) ∙ take-at c (rest ++ behind) 6 h
+pub length-pad : (n : ℕ) (l : List ℕ) → length l ≤ n → length (pad n l) ≡ n
+length-pad n l h = let behind = n - length l in omega (arith, length-append l (replicate behind 0), length-replicate {A = ℕ} behind 0)
 
-other-rows : (c rest behind : List ℕ) → length c ≡ 6 → drop 6 ((c ++ rest) ++ behind) ≡ rest ++ behind
-other-rows c rest behind h = ap (drop 6) (append-assoc c rest behind) ∙ drop-at c (rest ++ behind) 6 h
+-- Records of one width, one after another: how long they are, and that each is read again.
+module _ {A : Type 0} (enc : A → List ℕ) (k : ℕ) where
+  pub flat-length : (l : List A) → ((a : A) → List·Memᴰ a l → length (enc a) ≡ k) → length (flat (map enc l)) ≡ length l * k
+  flat-length [] h = sym (zero-mul k)
+  flat-length (a ∷ l) h =
+      omega (
+        arith,
+        length-append (enc a) (flat (map enc l)),
+        h a (List·Memᴰ.List·Memᴰ·head refl),
+        flat-length l (λ b m. h b (List·Memᴰ.List·Memᴰ·tail m)),
+        suc-mul (length l) k,
+      )
 
-modes-held : (ms : List ModeFields) (x y : List ℕ) → ((m : ModeFields) → List·Memᴰ m ms → length (m .conditions) ≡ 6) →
-    modesFrom (length ms) (map (λ m. m .rate) ms ++ x) (flat (map (λ m. m .conditions) ms) ++ y) ≡ ms
-modes-held [] x y h = refl
-modes-held (m ∷ ms) x y h =
-    let six = h m (List·Memᴰ.List·Memᴰ·head refl) in
-    let c = flat (map (λ m. m .conditions) ms) in
-    ap₂ (λ (k : List ℕ) (l : List ModeFields). record { rate = m .rate; conditions = k } ∷ l) (first-row (m .conditions) c y six)
-    (ap (modesFrom (length ms) (map (λ m. m .rate) ms ++ x)) (other-rows (m .conditions) c y six) ∙ modes-held ms x y (λ o k. h o (List·Memᴰ.List·Memᴰ·tail k)))
+  records-held : (one : List ℕ → A) (l : List A) (behind : List ℕ) → ((a : A) → List·Memᴰ a l → length (enc a) ≡ k) →
+      ((a : A) → List·Memᴰ a l → (rest : List ℕ) → one (enc a ++ rest) ≡ a) → recordsFrom one k (length l) (flat (map enc l) ++ behind) ≡ l
+  records-held one [] behind h e = refl
+  records-held one (a ∷ l) behind h e =
+      let rest = flat (map enc l) ++ behind in
+      let split = append-assoc (enc a) (flat (map enc l)) behind in
+      ap₂ (λ (b : A) (m : List A). b ∷ m) (ap one split ∙ e a (List·Memᴰ.List·Memᴰ·head refl) rest)
+      (ap (recordsFrom one k (length l)) (ap (drop k) split ∙ drop-at (enc a) rest k (h a (List·Memᴰ.List·Memᴰ·head refl)))
+      ∙ records-held one l behind (λ b m. h b (List·Memᴰ.List·Memᴰ·tail m)) (λ b m. e b (List·Memᴰ.List·Memᴰ·tail m)))
 
-moves-held : (es : List MoveFields) (s t p g r : List ℕ) → ((e : MoveFields) → List·Memᴰ e es → length (e .conditions) ≡ 6) →
-    movesFrom (length es) (map (λ e. e .source) es ++ s) (map (λ e. e .target) es ++ t) (map (λ e. e .price) es ++ p)
-    (flat (map (λ e. e .conditions) es) ++ g) (map (λ e. e .resets) es ++ r) ≡ es
-moves-held [] s t p g r h = refl
-moves-held (e ∷ es) s t p g r h =
-    let six = h e (List·Memᴰ.List·Memᴰ·head refl) in
-    let c = flat (map (λ e. e .conditions) es) in
-    ap₂ (λ (k : List ℕ) (l : List MoveFields).
-    record { source = e .source; target = e .target; price = e .price; conditions = k; resets = e .resets } ∷ l)
-    (first-row (e .conditions) c g six)
-    (ap (λ (k : List ℕ). movesFrom (length es) (map (λ e. e .source) es ++ s) (map (λ e. e .target) es ++ t) (map (λ e. e .price) es ++ p) k (map (λ e. e .resets) es ++ r))
-    (other-rows (e .conditions) c g six) ∙ moves-held es s t p g r (λ o k. h o (List·Memᴰ.List·Memᴰ·tail k)))
+-- A mode record, and a move record.
+mode-wide : (m : ModeFields) → length (m .conditions) ≡ 6 → length (modeBytes m) ≡ 8
+mode-wide m h = omega arith
 
--- The struct holds the fields that it was made of.
-pub fields-held : (f : Fields) → InRange f → fields (held f) ≡ f
-unfolding fields held
-fields-held f k =
-    let ceilings : take (held f .timers) (held f .ceilings) ≡ f .ceilings = take-append-seam (f .ceilings) _ in
-    let modes : modesFrom (held f .modes) (held f .rates) (held f .invariants) ≡ f .modes = modes-held (f .modes) _ _ (k .six-invariants) in
-    let moves : movesFrom (held f .moves) (held f .sources) (held f .targets) (held f .prices) (held f .guards) (held f .resets) ≡ f .moves =
-    moves-held (f .moves) _ _ _ _ _ (k .six-guards) in
-    λ i. record { goal = f .goal; ceilings = ceilings i; modes = modes i; moves = moves i }
+move-wide : (e : MoveFields) → length (e .conditions) ≡ 6 → length (moveBytes e) ≡ 12
+move-wide e h = omega (arith, length-append (e .conditions) (e .resets ∷ 0 ∷ []))
+
+two-bytes : (a : ℕ) → a % 256 + 256 * (a / 256) ≡ a
+two-bytes a = omega arith
+
+mode-again : (m : ModeFields) → length (m .conditions) ≡ 6 → (rest : List ℕ) → modeFrom (modeBytes m ++ rest) ≡ m
+mode-again m h rest = λ i. record { rate = two-bytes (m .rate) i; conditions = take-at (m .conditions) rest 6 h i }
+
+move-again : (e : MoveFields) → length (e .conditions) ≡ 6 → (rest : List ℕ) → moveFrom (moveBytes e ++ rest) ≡ e
+move-again e h rest =
+    let split = append-assoc (e .conditions) (e .resets ∷ 0 ∷ []) rest in
+    let cs : take 6 ((e .conditions ++ e .resets ∷ 0 ∷ []) ++ rest) ≡ e .conditions =
+    ap (take 6) split ∙ take-at (e .conditions) _ 6 h in
+    let resets : getD ((e .conditions ++ e .resets ∷ 0 ∷ []) ++ rest) 6 0 ≡ e .resets =
+    ap (λ (l : List ℕ). getD l 6 0) split ∙ getD-at (e .conditions) (e .resets) (0 ∷ rest) 0 6 h in
+    λ i. record { source = e .source; target = e .target; price = two-bytes (e .price) i; conditions = cs i; resets = resets i }
+
+-- The records are as many and as wide as the bytes have room for.
+pub record Shaped (f : Fields) : Type 0 where
+  pub few-modes : length (f .modes) ≤ 16
+  pub few-timers : length (f .ceilings) ≤ 3
+  pub few-moves : length (f .moves) ≤ 64
+  pub six-invariants : (m : ModeFields) → List·Memᴰ m (f .modes) → length (m .conditions) ≡ 6
+  pub six-guards : (e : MoveFields) → List·Memᴰ e (f .moves) → length (e .conditions) ≡ 6
+
+pub range-shaped : (f : Fields) → InRange f → Shaped f
+range-shaped f k = record {
+  few-modes = k .modes-range .1;
+  few-timers = k .timers-range .1;
+  few-moves = k .moves-range;
+  six-invariants = k .six-invariants;
+  six-guards = k .six-guards;
+}
+
+pub layout-shaped : (bytes : List ℕ) (f : Fields) → Layout bytes f → Shaped f
+layout-shaped bytes f k = record {
+  few-modes = k .modes-range .1;
+  few-timers = k .timers-range .1;
+  few-moves = k .moves-range;
+  six-invariants = row-all (λ m. length (m .conditions) ≡ 6) (λ i xs m r. r .conditions .six) 0 (k .mode-bytes) (f .modes) (k .modes);
+  six-guards = row-all (λ e. length (e .conditions) ≡ 6) (λ i xs e r. r .conditions .six) 0 (k .move-bytes) (f .moves) (k .moves);
+}
+
+module _ (f : Fields) (k : Shaped f) where
+  abbrev pub modeRoom : List ℕ
+  modeRoom = pad 128 (flat (map modeBytes (f .modes)))
+
+  abbrev pub moveRoom : List ℕ
+  moveRoom = pad 768 (flat (map moveBytes (f .moves)))
+
+  pub modes-wide : (m : ModeFields) → List·Memᴰ m (f .modes) → length (modeBytes m) ≡ 8
+  modes-wide m h = mode-wide m (k .six-invariants m h)
+
+  pub moves-wide : (e : MoveFields) → List·Memᴰ e (f .moves) → length (moveBytes e) ≡ 12
+  moves-wide e h = move-wide e (k .six-guards e h)
+
+  -- How long the parts are.
+  pub ceilings-room : length (pad 4 (f .ceilings)) ≡ 4
+  ceilings-room = length-pad 4 (f .ceilings) (omega (arith, k .few-timers))
+
+  pub mode-room : length modeRoom ≡ 128
+  mode-room = length-pad 128 (flat (map modeBytes (f .modes))) (omega (arith, flat-length modeBytes 8 (f .modes) modes-wide, k .few-modes))
+
+  pub move-room : length moveRoom ≡ 768
+  move-room = length-pad 768 (flat (map moveBytes (f .moves))) (omega (arith, flat-length moveBytes 12 (f .moves) moves-wide, k .few-moves))
+
+  pub held-length : length (held f) ≡ 904
+  unfolding held
+  held-length =
+      omega (
+        arith,
+        length-append (pad 4 (f .ceilings)) (modeRoom ++ moveRoom),
+        length-append modeRoom moveRoom,
+        ceilings-room,
+        mode-room,
+        move-room,
+      )
+
+  -- Where the records begin.
+  pub modes-from : drop 8 (held f) ≡ modeRoom ++ moveRoom
+  unfolding held
+  modes-from = drop-at (pad 4 (f .ceilings)) (modeRoom ++ moveRoom) 4 ceilings-room
+
+  pub moves-from : drop 136 (held f) ≡ moveRoom
+  moves-from = sym (drop-drop 128 8 (held f)) ∙ ap (drop 128) modes-from ∙ drop-at modeRoom moveRoom 128 mode-room
+
+  -- The bytes hold the fields that they were made of.
+  pub fields-shaped : fieldsOf (held f) ≡ f
+  unfolding fieldsOf held
+  fields-shaped =
+      let ceilings : take (length (f .ceilings)) (pad 4 (f .ceilings) ++ (modeRoom ++ moveRoom)) ≡ f .ceilings =
+      ap (take (length (f .ceilings))) (append-assoc (f .ceilings) _ _) ∙ take-append-seam (f .ceilings) _ in
+      let modes : recordsFrom modeFrom 8 (length (f .modes)) (drop 8 (held f)) ≡ f .modes =
+      ap (recordsFrom modeFrom 8 (length (f .modes))) (modes-from ∙ append-assoc (flat (map modeBytes (f .modes))) _ _)
+      ∙ records-held modeBytes 8 modeFrom (f .modes) _ modes-wide (λ m h. mode-again m (k .six-invariants m h)) in
+      let moves : recordsFrom moveFrom 12 (length (f .moves)) (drop 136 (held f)) ≡ f .moves =
+      ap (recordsFrom moveFrom 12 (length (f .moves))) moves-from
+      ∙ records-held moveBytes 12 moveFrom (f .moves) _ moves-wide (λ e h. move-again e (k .six-guards e h)) in
+      λ i. record { goal = f .goal; ceilings = ceilings i; modes = modes i; moves = moves i }
+
+pub fields-held : (f : Fields) → InRange f → fieldsOf (held f) ≡ f
+fields-held f k = fields-shaped f (range-shaped f k)
 
 pub held-table : (f : Fields) → InRange f → IsTable (held f)
 held-table f k = let e = fields-held f k in record { holds = sym (ap held e); range = rw e k }
@@ -63,6 +160,7 @@ pub accepted-range : (bytes : List ℕ) (f : Fields) → ((i : ℕ) → getD byt
 accepted-range bytes f h e =
     let a = accepts bytes f .0 e in
     let k = a .0 in
+    let s = layout-shaped bytes f k in
     let b = accepted-bounded bytes f h e in
     record {
       modes-range = k .modes-range;
@@ -71,20 +169,25 @@ accepted-range bytes f h e =
       ceilings-range = k .ceilings-range;
       rates-range = b .rates;
       prices-range = b .prices;
-      six-invariants = row-all (λ m. length (m .conditions) ≡ 6) (λ i xs m r. r .conditions .six) 0 (k .mode-bytes) (f .modes) (k .modes);
-      six-guards = row-all (λ e. length (e .conditions) ≡ 6) (λ i xs e r. r .conditions .six) 0 (k .move-bytes) (f .moves) (k .moves);
+      six-invariants = s .six-invariants;
+      six-guards = s .six-guards;
       proper = layout-proper bytes f k (a .1);
     }
 
--- The struct of an accepted reading is a table.
-pub accepted-table :
-    (bytes : List ℕ) (r : Reading) → ((i : ℕ) → getD bytes i 0 < 256) → r ≡ reading (read bytes) → r .verdict ≡ Accepted → IsTable (r .table)
-unfolding reading
-accepted-table bytes r small is met = go (read bytes) refl
-  where
-    go : (j : Judgement) → read bytes ≡ j → IsTable (r .table)
-    go (accepted f) e =
-        subst IsTable (sym (ap (λ (s : Reading). s .table) (is ∙ ap reading e))) (held-table f (accepted-range bytes f small e))
-    go (rejected n) e =
-        let no = sym met ∙ ap (λ (s : Reading). s .verdict) (is ∙ ap reading e) in
-        absurd (true≢false cc)
+-- What is left in the table after an acceptance: the fields that were accepted, and these bytes are a table.
+pub record Accepts (bytes t : List ℕ) : Type 0 where
+  pub fields : Fields
+  pub accepts : read bytes ≡ accepted fields
+  pub holds : t ≡ held fields
+  pub range : InRange fields
+
+module _ (bytes t : List ℕ) (v : Verdict) (small : (i : ℕ) → getD bytes i 0 < 256) (is : Reading (read bytes) v t) (met : v ≡ Accepted) where
+  pub accepted-fields : Accepts bytes t
+  accepted-fields = go (read bytes) refl is
+    where
+      go : (j : Judgement) → read bytes ≡ j → Reading j v t → Accepts bytes t
+      go (accepted f) e r = record { fields = f; accepts = e; holds = r .table-is; range = accepted-range bytes f small e }
+      go (rejected n) e r = let no = sym met ∙ r .verdict-is in let z : _≡_ {A = ℕ} 0 1 = cc in absurd (omega arith)
+
+  pub accepted-table : IsTable t
+  accepted-table = let a = accepted-fields in subst IsTable (sym (a .holds)) (held-table (a .fields) (a .range))

@@ -10,9 +10,10 @@ use Rattle.semantics.specs.NodeCount.{cornerCount, factor, cellCount, nodeCount
 use Rattle.semantics.specs.Nodes.Node.{cellNumber, cellAt}
 use Rattle.semantics.specs.Nodes.Cells.{cellAt-length}
 use Rattle.reader.specs.Meaning.{automaton}
-use Rattle.reader.specs.Held.{IsTable, held, fields}
-use Rattle.reader.specs.Theorems.Access.{getD-pad, getD-all, mode-count, timer-count}
-use Rattle.reader.specs.declared.Table.{Table}
+use Rattle.reader.specs.Opened.{IsTable, held, fields}
+use Rattle.reader.specs.Theorems.Access.{getD-pad, getD-all}
+use Rattle.reader.specs.Theorems.Opened.{mode-count, timer-count}
+use Rattle.reader.specs.declared.opened.Table.{Table}
 use Rattle.regions.specs.Held.{mostTimers, pad}
 use Rattle.regions.specs.Nodes.{mostCeiling, CeilingsFew, Padded}
 

@@ -3,7 +3,7 @@
 use mathlib.Core.Logic.{⊎-elim}
 use Prim.Native.Nat.{_-_}
 use native.Mathlib.Omega.{arith}
-use Rattle.reader.specs.declared.Table.{Table}
+use Rattle.reader.specs.declared.opened.Table.{Table}
 use Rattle.route.specs.Walk.{ChooseAt}
 use Rattle.route.proofs.Choosing.{Leads, Fails, NoneBelow, step-leads, step-refused, test-fails, test-holds, chooses-none, next-ready, words-at, none-first, none-next}
 use Rattle.route.proofs.choose.Statement.{statement}

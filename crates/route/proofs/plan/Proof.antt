@@ -4,14 +4,23 @@ use mathlib.Core.Path.{_∙_}
 use Prim.Native.Nat.{ℕ, _<_}
 use native.Mathlib.Omega.{arith}
 use lib.ListN.{getD}
+use Rattle.reader.specs.Opened.{IsTable}
 use Rattle.reader.specs.Theorems.Holding.{accepted-table}
+use Rattle.reader.specs.Theorems.Opened.{opened-table}
 use Rattle.route.proofs.Planning.{outcome-keeps, planned-refused, planned-accepted}
 use Rattle.route.proofs.plan.Statement.{statement}
 use Rattle.route.proofs.plan.Tie as tie
 
 -- The bytes are below 256.
-small : (c : tie.After-read) → (i : ℕ) → getD (c .before .before .before .before .args .bytes .now) i 0 < 256
-small c i = omega (arith, c .before .before .before .shared-slice-known .given i)
+small : (c : tie.After-read) → (i : ℕ) → getD (c .before .before .before .before .before .args .bytes .now) i 0 < 256
+small c i = omega (arith, c .before .before .before .before .shared-slice-known .given i)
+
+-- The bytes that an acceptance left are a table.
+accepted : (c : tie.After-enum-told) → IsTable (c .before .before .read .last .1 .0)
+accepted c =
+    let p = c .before .before in
+    accepted-table (p .before .before .before .before .before .args .bytes .now) (p .read .last .1 .0) (p .read .result) (small p) (p .read .ensures)
+    (c .enum-told .given .1)
 
 read-requires : tie.Need-read-requires
 read-requires c κs = search needs
@@ -22,21 +31,24 @@ enum-known-verdict c = search needs
 enum-told : tie.Need-enum-told
 enum-told c = search needs
 
+opened-requires : tie.Need-opened-requires
+opened-requires c κs = accepted (c .before)
+
 plan-table-requires : tie.Need-plan-table-requires
 plan-table-requires c κs =
-    let told = c .before .before .before in
-    let p = told .before .before in
-    accepted-table (p .before .before .before .before .args .bytes .now) (p .read .result) (small p) (p .read .ensures) (told .enum-told .given .1)
+    let o = c .before .before in
+    let told = o .before .before in
+    opened-table (told .before .before .read .last .1 .0) (accepted told) (o .opened .result) (o .opened .ensures)
 
 returns : tie.Need-returns
 returns c =
     let p = c .before .before .before in
-    let s = p .before .before .before .before .args in
+    let s = p .before .before .before .before .before .args in
     let bytes = s .bytes .now in
     let ws = s .words .now in
     let rs = s .route .now in
     let n = c .before .verdict .given .0 .0 in
-    let e = planned-refused bytes (p .read .result) (p .read .ensures) ws rs n (c .before .verdict .given .1) in
+    let e = planned-refused bytes (p .read .last .1 .0) (p .read .result) (p .read .ensures) ws rs n (c .before .verdict .given .1) in
     (e, outcome-keeps bytes ws ws rs rs _ e)
 
 same-length : tie.Need-same-length
@@ -48,13 +60,16 @@ same-length-2 c = search needs
 returns-2 : tie.Need-returns-2
 returns-2 c =
     let q = c .before .before .before .before in
-    let told = q .before .before .before .before in
+    let o = q .before .before .before in
+    let told = o .before .before in
     let p = told .before .before in
-    let s = p .before .before .before .before .args in
+    let s = p .before .before .before .before .before .args in
     let bytes = s .bytes .now in
     let ws = s .words .now in
     let rs = s .route .now in
-    let e = q .plan-table .ensures ∙ planned-accepted bytes (p .read .result) (p .read .ensures) ws rs (small p) (told .enum-told .given .1) in
+    let e =
+    q .plan-table .ensures
+    ∙ planned-accepted bytes (p .read .last .1 .0) (p .read .result) (p .read .ensures) ws rs (small p) (told .enum-told .given .1) (o .opened .result) (o .opened .ensures) in
     (e, outcome-keeps bytes ws (q .plan-table .last .1 .0) rs (q .plan-table .last .1 .1 .0) (q .plan-table .result) e)
 
 pub plan-spec : {M : Type 1} → statement M
@@ -64,6 +79,7 @@ plan-spec =
     read-requires
     enum-known-verdict
     enum-told
+    opened-requires
     plan-table-requires
     returns
     same-length

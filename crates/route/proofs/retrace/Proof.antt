@@ -3,7 +3,7 @@
 use mathlib.Core.Path.{_≡_, subst}
 use Prim.Native.Nat.{ℕ, _+_, _-_, _≤_}
 use native.Mathlib.Omega.{arith}
-use Rattle.reader.specs.declared.Table.{Table}
+use Rattle.reader.specs.declared.opened.Table.{Table}
 use Rattle.route.specs.Walk.{LedTo, Kept, RetraceAt}
 use Rattle.route.proofs.Retracing.{led-step, led-none, led-next, kept-first, kept-more}
 use Rattle.route.proofs.retrace.Statement.{statement}

@@ -3,7 +3,7 @@
 use mathlib.Core.Path.{_∙_}
 use mathlib.Core.Logic.{⊎-elim}
 use native.Mathlib.Omega.{arith}
-use Rattle.reader.specs.declared.Table.{Table}
+use Rattle.reader.specs.declared.opened.Table.{Table}
 use Rattle.route.specs.Walk.{WalkAt}
 use Rattle.route.proofs.Walking.{Walking, walking-begins, depth-few, choosing, leaving, walking-ends, depth-below, walking-further, turns, turns-further}
 use Rattle.route.proofs.Returning.{depth-some, there-before, byte-below, retracing, kept-still, kept-again, walking-back, turns-back}

@@ -3,7 +3,7 @@ use borrow.Author.Needs.{needs}
 use mathlib.Core.Path.{_≡_, sym, _∙_}
 use native.Mathlib.Omega.{arith}
 use lib.ListN.{length}
-use Rattle.reader.specs.Theorems.Access.{counts}
+use Rattle.reader.specs.Theorems.Opened.{counts}
 use Rattle.search.specs.Regions.{automatonOf, startOf}
 use Rattle.search.specs.Near.{BestRoom}
 use Rattle.search.specs.Spread.{SpreadAt, SpreadWords}

@@ -15,10 +15,10 @@ use Rattle.semantics.specs.Bounds.Steps.{step-view}
 use Rattle.semantics.specs.Bounds.Flow.{step-flow}
 use Rattle.semantics.specs.Answers.Places.{IsPlace, reached-place, place-step}
 use Rattle.semantics.specs.Answers.Edges.{step-edge}
-use Rattle.reader.specs.declared.Table.{Table}
+use Rattle.reader.specs.declared.opened.Table.{Table}
 use Rattle.reader.specs.Fields.{mostPrice}
-use Rattle.reader.specs.Held.{IsTable}
-use Rattle.reader.specs.Theorems.Access.{table-proper, timer-count, counts, amounts-within}
+use Rattle.reader.specs.Opened.{IsTable}
+use Rattle.reader.specs.Theorems.Opened.{table-proper, timer-count, counts, amounts-within}
 use Rattle.regions.specs.Held.{view}
 use Rattle.regions.specs.Laws.Chain.{view-pack, valid-pack}
 use Rattle.search.specs.declared.places.Place.{Place as PlaceHeld}

@@ -28,10 +28,10 @@ use Rattle.semantics.specs.Paths.Near.{BestTarget, words-near, near-best}
 use Rattle.semantics.specs.Answers.Graph.{graph-nodes, graph-closed, graph-weights}
 use Rattle.semantics.specs.Answers.Modes.{graph-goal}
 use Rattle.semantics.specs.Answers.Walk.{NearCosts}
-use Rattle.reader.specs.declared.Table.{Table}
+use Rattle.reader.specs.declared.opened.Table.{Table}
 use Rattle.reader.specs.Fields.{mostPrice}
-use Rattle.reader.specs.Held.{IsTable}
-use Rattle.reader.specs.Theorems.Access.{table-proper, mode-count, counts, amounts-within}
+use Rattle.reader.specs.Opened.{IsTable}
+use Rattle.reader.specs.Theorems.Opened.{table-proper, mode-count, counts, amounts-within}
 use Rattle.regions.specs.Nodes.{mostNodes}
 use Rattle.search.specs.declared.Searched.{Searched}
 use Rattle.search.specs.declared.Searched.the-variants.{Nodes, Refused}

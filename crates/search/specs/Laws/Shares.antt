@@ -10,9 +10,9 @@ use Rattle.semantics.specs.Chain.{begin}
 use Rattle.semantics.specs.Bounds.Reached.{reached-begin}
 use Rattle.semantics.specs.Answers.Places.{IsPlace, reached-place, corner-top, number-below, number-node}
 use Rattle.semantics.specs.Answers.Modes.{modeOfNode, Block, graph-block}
-use Rattle.reader.specs.declared.Table.{Table}
-use Rattle.reader.specs.Held.{IsTable}
-use Rattle.reader.specs.Theorems.Access.{table-proper, mode-count, timer-count, counts, ceilings-are}
+use Rattle.reader.specs.declared.opened.Table.{Table}
+use Rattle.reader.specs.Opened.{IsTable}
+use Rattle.reader.specs.Theorems.Opened.{table-proper, mode-count, timer-count, counts, ceilings-are}
 use Rattle.regions.specs.Laws.Nodes.{count-padded, table-padded, table-nodes}
 use Rattle.search.specs.Regions.{automatonOf, graphOf, startOf, share}
 

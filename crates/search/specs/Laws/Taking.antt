@@ -12,9 +12,9 @@ use lib.ListN.{length, getD}
 use Rattle.semantics.specs.Automaton.{Automaton}
 use Rattle.semantics.specs.Region.{meetsAll}
 use Rattle.semantics.specs.Chain.{Place, onlyIf, moveStep, step}
-use Rattle.reader.specs.declared.Table.{Table}
-use Rattle.reader.specs.Held.{IsTable}
-use Rattle.reader.specs.Theorems.Access.{move-count, move-at}
+use Rattle.reader.specs.declared.opened.Table.{Table}
+use Rattle.reader.specs.Opened.{IsTable}
+use Rattle.reader.specs.Theorems.Opened.{move-count, move-at}
 use Rattle.search.specs.Regions.{automatonOf}
 use Rattle.search.specs.Rows.{conditionsAt}
 use Rattle.search.specs.Places.{mayTake}

@@ -38,7 +38,7 @@ returns-4 : tie.Need-returns-4
 returns-4 c =
     let a = c .before .before .before .before .args in record {
       gives = gives _ refl (within-right (a .bytes .now) (a .from) (a .number) (a .low) (a .high) (omega arith) (omega arith) (c .if3 .left)) refl;
-      range = λ z. omega arith;
+      range = λ z. (omega arith, omega arith, refl);
     }
 
 pub byte-within-spec : {M : Type 1} → statement M

@@ -1,66 +1,41 @@
 -- `reader::records::move_records` meets its contract. The loop has collected the first i records. Assumes nothing.
-use Prim.Native.Nat.{_-_}
-use mathlib.Core.Path.{refl, sym}
+use Prim.Native.Nat.{_*_, _-_}
+use mathlib.Core.Path.{_≡_, refl}
+use mathlib.Core.List.{map}
 use native.Mathlib.Omega.{arith}
-use lib.ListN.{drop}
 use Rattle.reader.specs.Format.{moveRecord}
-use Rattle.reader.specs.Step.{gives, moveFields}
-use Rattle.reader.proofs.Storing.{MovesSoFar, moves-more, moves-room, move-six, read-six}
+use Rattle.reader.specs.Held.{flat, moveBytes}
+use Rattle.reader.specs.Step.{gives, Wrote}
+use Rattle.reader.proofs.Writing.{wrote-none, wrote-more}
 use Rattle.reader.proofs.Collecting.{Gathered, gathered-none, gathered-more, gathered-refused, gathered-all}
 use Rattle.reader.proofs.records.move_records.Statement.{statement}
 use Rattle.reader.proofs.records.move_records.Tie as tie
 
 abbrev Inv-loop : tie.InvT-loop
-Inv-loop bytes from timers modes moves sources₀ targets₀ prices₀ guards₀ resets₀ next₀ i₀ i-end sources targets prices guards resets next i =
-    Gathered (λ i. moveRecord modes timers) 0 moves bytes from (MovesSoFar sources targets prices guards resets) next i
+Inv-loop bytes from timers modes moves table₀ next₀ i₀ i-end table next i =
+    Gathered (λ i. moveRecord modes timers) 0 moves bytes from (λ l. Wrote (12 * i) table₀ 136 table (flat (map moveBytes l))) next i
 
 abbrev μ-loop : tie.MeasureT-loop
-μ-loop bytes from timers modes moves sources₀ targets₀ prices₀ guards₀ resets₀ next₀ i₀ i-end sources targets prices guards resets next i =
-    moves - i
+μ-loop bytes from timers modes moves table₀ next₀ i₀ i-end table next i = moves - i
 
 loop-holds : tie.Need-loop-holds Inv-loop μ-loop
-loop-holds c =
-    let a = c .before .args in
-    gathered-none (λ i. moveRecord (a .modes) (a .timers)) 0 (a .moves) (a .bytes .now) (a .from)
-    (record { hold = record { sources-held = refl; targets-held = refl; prices-held = refl; guards-held = refl; resets-held = refl }; rows = refl })
+loop-holds c = let a = c .before .args in gathered-none (λ i. moveRecord (a .modes) (a .timers)) 0 (a .moves) (a .bytes .now) (a .from) (wrote-none _ _)
+
+mul-move-record : tie.Need-mul-move-record Inv-loop μ-loop
+mul-move-record c = omega arith
+
+add-move-record : tie.Need-add-move-record Inv-loop μ-loop
+add-move-record c = omega arith
 
 move-record-requires : tie.Need-move-record-requires Inv-loop μ-loop
 move-record-requires c κs = omega arith
 
 returns : tie.Need-returns Inv-loop μ-loop
 returns c =
-    let at-loop = c .before .before .before .before in
+    let at-loop = c .before .before .before .before .before in
     let a = at-loop .before .before .args in
     gathered-refused (λ i. moveRecord (a .modes) (a .timers)) 0 (a .moves) (a .bytes .now) (a .from) (at-loop .loop .inv) (omega arith) (c .if1 .taken)
     (c .before .before .move-record .ensures)
-
-array-write-sources : tie.Need-array-write-sources Inv-loop μ-loop
-array-write-sources c = omega arith
-
-array-write-targets : tie.Need-array-write-targets Inv-loop μ-loop
-array-write-targets c = omega arith
-
-mul-prices : tie.Need-mul-prices Inv-loop μ-loop
-mul-prices c = omega arith
-
-array-write-prices : tie.Need-array-write-prices Inv-loop μ-loop
-array-write-prices c = omega arith
-
-slice-aggregate-store : tie.Need-slice-aggregate-store Inv-loop μ-loop
-slice-aggregate-store c =
-    let at-loop = c .before .before .before .before .before .before in
-    sym (moves-room (at-loop .loop .inv) (omega arith))
-
-mul-store : tie.Need-mul-store Inv-loop μ-loop
-mul-store c = omega arith
-
-store-requires : tie.Need-store-requires Inv-loop μ-loop
-store-requires c κs =
-    let at-loop = c .before .before .before .before .before .before in
-    omega (arith, moves-room (at-loop .loop .inv) (omega arith))
-
-array-write-resets : tie.Need-array-write-resets Inv-loop μ-loop
-array-write-resets c = omega arith
 
 add-i : tie.Need-add-i Inv-loop μ-loop
 add-i c = omega arith
@@ -70,21 +45,18 @@ loop-less c = omega arith
 
 loop-again : tie.Need-loop-again Inv-loop μ-loop
 loop-again c =
-    let read = c .before .before .before .before .before .before in
-    let at-loop = read .before .before in
+    let at-loop = c .before .before .before .before .before in
     let a = at-loop .before .before .args in
-    let m = read .move-record in
-    let left = c .before .before .before .before .if1 .left in
-    let six = read-six (λ m. m .conditions) (λ rest. move-six (a .modes) (a .timers) (drop (at-loop .loop .next) (a .bytes .now)) rest (moveFields (m .result))) left (m .ensures) in
-    gathered-more (λ i. moveRecord (a .modes) (a .timers)) 0 (a .moves) (a .bytes .now) (a .from) (at-loop .loop .inv) (omega arith) left (m .ensures)
-    (λ l k s. rw (c .before .store .ensures) (moves-more (moveFields (m .result)) (omega arith) six l k s))
+    gathered-more (λ i. moveRecord (a .modes) (a .timers)) 0 (a .moves) (a .bytes .now) (a .from) (at-loop .loop .inv) (omega arith) (c .if1 .left)
+    (c .before .before .move-record .ensures) (λ e l w v. wrote-more moveBytes 12 (at-loop .loop .i) e l w v)
 
 returns-2 : tie.Need-returns-2 Inv-loop μ-loop
 returns-2 c =
     let at-loop = c .before in
     let a = at-loop .before .before .args in
     let g = at-loop .loop .inv in
-    gives (g .taken) refl (gathered-all (λ i. moveRecord (a .modes) (a .timers)) 0 (a .moves) (a .bytes .now) (a .from) g (omega arith)) (g .hold .hold)
+    let all : at-loop .loop .i ≡ a .moves = omega (arith, g .few) in
+    gives (g .taken) refl (gathered-all (λ i. moveRecord (a .modes) (a .timers)) 0 (a .moves) (a .bytes .now) (a .from) g (omega arith)) (rw all at (g .hold))
 
 pub move-records-spec : {M : Type 1} → statement M
 move-records-spec =
@@ -93,16 +65,10 @@ move-records-spec =
     Inv-loop
     μ-loop
     loop-holds
+    mul-move-record
+    add-move-record
     move-record-requires
     returns
-    array-write-sources
-    array-write-targets
-    mul-prices
-    array-write-prices
-    slice-aggregate-store
-    mul-store
-    store-requires
-    array-write-resets
     add-i
     loop-less
     loop-again

@@ -7,8 +7,8 @@ use borrow.Author.Needs.{needs}
 use borrow.Author.Tests.{le-leb, lt-leb}
 use Rattle.semantics.specs.NodeCount.{nodeCount}
 use Rattle.reader.specs.Meaning.{automaton}
-use Rattle.reader.specs.Held.{fields}
-use Rattle.reader.specs.Theorems.Access.{counts}
+use Rattle.reader.specs.Opened.{fields}
+use Rattle.reader.specs.Theorems.Opened.{counts}
 use Rattle.regions.specs.Nodes.{mostNodes}
 use Rattle.regions.specs.Laws.Nodes.{table-few, table-nodes}
 use Rattle.regions.proofs.Cells.{product-few}

@@ -10,7 +10,7 @@ use lib.ListN.{length, getD, length-map, length-set}
 use lib.Seq.{length-take-le}
 use Rattle.semantics.specs.Graph.Path.{infinity}
 use Rattle.semantics.specs.Paths.Sound.{measure}
-use Rattle.reader.specs.declared.Table.{Table}
+use Rattle.reader.specs.declared.opened.Table.{Table}
 use Rattle.regions.specs.Laws.Nodes.{corners-few}
 use Rattle.search.specs.Classes.{NextPending}
 use Rattle.search.specs.Spread.{SpreadAt}

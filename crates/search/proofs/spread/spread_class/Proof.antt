@@ -5,7 +5,7 @@ use mathlib.Core.Path.{_≡_, refl, _∙_, sym, subst}
 use Prim.Native.Nat.{ℕ, _+_, _*_, _-_, _≤_, _<_}
 use native.Mathlib.Omega.{arith}
 use borrow.Author.Needs.{needs}
-use Rattle.reader.specs.declared.Table.{Table}
+use Rattle.reader.specs.declared.opened.Table.{Table}
 use Rattle.regions.specs.Held.{view}
 use Rattle.regions.specs.Laws.Fields.{holds, top-is}
 use Rattle.search.specs.Regions.{RegionAround}

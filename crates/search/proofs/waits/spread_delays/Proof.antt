@@ -10,7 +10,7 @@ use lib.ListN.{take}
 use borrow.Author.Needs.{needs}
 use borrow.Author.Tests.{not-true, not-false}
 use Rattle.semantics.specs.Region.{meetsAll, within}
-use Rattle.reader.specs.declared.Table.{Table}
+use Rattle.reader.specs.declared.opened.Table.{Table}
 use Rattle.regions.specs.declared.Region.{Region}
 use Rattle.regions.specs.Held.{view}
 use Rattle.search.specs.Rows.{conditionsAt}

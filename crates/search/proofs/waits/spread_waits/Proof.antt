@@ -6,7 +6,7 @@ use Prim.Native.Nat.{ℕ, _+_, _≤_}
 use native.Mathlib.Omega.{arith}
 use denote.Ref.{now}
 use borrow.Author.Needs.{needs}
-use Rattle.reader.specs.declared.Table.{Table}
+use Rattle.reader.specs.declared.opened.Table.{Table}
 use Rattle.search.specs.Regions.{graphOf, startOf, classEnd, Spread, WaitsAt}
 use Rattle.search.proofs.RegionWaits.{price-room, whole-room, last-corner, lingers, linger-ready, Lingers, linger-none, linger-done, delays-at, waits-done}
 use Rattle.search.proofs.waits.spread_waits.Statement.{statement}

@@ -9,7 +9,7 @@ use native.Mathlib.Omega.{arith}
 use denote.Ref.{now}
 use lib.ListN.{length, getD, take, drop}
 use Rattle.semantics.specs.Region.{meetsAll}
-use Rattle.reader.specs.declared.Table.{Table}
+use Rattle.reader.specs.declared.opened.Table.{Table}
 use Rattle.reader.specs.Meaning.{conditionsFrom}
 use Rattle.regions.specs.Held.{view, Valid}
 use Rattle.search.specs.Rows.{conditionsAt}

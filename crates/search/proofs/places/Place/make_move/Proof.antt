@@ -8,7 +8,7 @@ use borrow.Author.Tests.{eq-eqb, ne-eqb, not-true, not-false}
 use lib.Dec.{eqb}
 use lib.ListN.{getD}
 use Rattle.semantics.specs.Region.{meetsAll}
-use Rattle.reader.specs.Theorems.Access.{counts}
+use Rattle.reader.specs.Theorems.Opened.{counts}
 use Rattle.regions.specs.Held.{view}
 use Rattle.search.specs.Rows.{conditionsAt}
 use Rattle.search.proofs.Steps.{few-moves, sources-many, targets-many, prices-many, resets-many, mode-row, move-row, to-mode, price-few}

@@ -4,7 +4,7 @@ use mathlib.Core.Path.{ap, _∙_}
 use Prim.Native.Nat.{ℕ}
 use native.Mathlib.Omega.{arith}
 use Rattle.semantics.specs.Region.{start}
-use Rattle.reader.specs.Theorems.Access.{counts, timer-count}
+use Rattle.reader.specs.Theorems.Opened.{counts, timer-count}
 use Rattle.regions.specs.declared.Region.{Region}
 use Rattle.regions.specs.Held.{pack}
 use Rattle.search.proofs.places.Place.start.Statement.{statement}

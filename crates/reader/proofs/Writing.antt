@@ -1,0 +1,59 @@
+-- Bytes that are written into a table one part after another.
+-- Assumes nothing.
+use Prim.Native.Nat.{ℕ, suc, _+_, _*_, _/_, _%_, _<_}
+use native.Mathlib.Nat.{add-zero, mul-add}
+use native.Mathlib.Numerals.{add-one}
+use native.Mathlib.Omega.{arith}
+use mathlib.Core.Path.{_≡_, refl, sym, ap, ap₂, _∙_}
+use mathlib.Core.List.{List, [], _∷_, _++_, map, append-assoc, append-nil}
+use lib.ListN.{length, length-append, set}
+use lib.Seq.{sets}
+use Rattle.reader.specs.Held.{flat}
+use Rattle.reader.specs.Step.{Wrote}
+
+sets-append : (xs ys t : List ℕ) (at : ℕ) → sets t at (xs ++ ys) ≡ sets (sets t at xs) (at + length xs) ys
+sets-append [] ys t at = ap (λ (k : ℕ). sets t k ys) (sym (add-zero at))
+sets-append (x ∷ xs) ys t at =
+    let further : suc at + length xs ≡ at + suc (length xs) = omega arith in
+    sets-append xs ys (set t at x) (suc at) ∙ ap (λ (k : ℕ). sets (sets (set t at x) (suc at) xs) k ys) further
+
+-- A part behind a part.
+pub wrote-then : {a b at : ℕ} {t t′ t″ xs ys : List ℕ} → Wrote a t at t′ xs → Wrote b t′ (at + a) t″ ys → Wrote (a + b) t at t″ (xs ++ ys)
+wrote-then {at = at} {t = t} {xs = xs} {ys = ys} v w = record {
+  is = w .is ∙ ap₂ (λ (u : List ℕ) (k : ℕ). sets u (at + k) ys) (v .is) (sym (v .long)) ∙ sym (sets-append xs ys t at);
+  long = omega (arith, length-append xs ys, v .long, w .long);
+}
+
+map-append : {A B : Type 0} (f : A → B) (l m : List A) → map f (l ++ m) ≡ map f l ++ map f m
+map-append f [] m = refl
+map-append f (a ∷ l) m = ap (λ (k : List _). f a ∷ k) (map-append f l m)
+
+flat-append : (l m : List (List ℕ)) → flat (l ++ m) ≡ flat l ++ flat m
+flat-append [] m = refl
+flat-append (a ∷ l) m = ap (λ (k : List ℕ). a ++ k) (flat-append l m) ∙ sym (append-assoc a (flat l) (flat m))
+
+flat-one : {A : Type 0} (g : A → List ℕ) (l : List A) (a : A) → flat (map g (l ++ a ∷ [])) ≡ flat (map g l) ++ g a
+flat-one g l a = ap flat (map-append g l (a ∷ [])) ∙ flat-append (map g l) (g a ∷ []) ∙ ap (λ (k : List ℕ). flat (map g l) ++ k) (append-nil (g a))
+
+-- One record more.
+pub wrote-more : {A : Type 0} (g : A → List ℕ) (k i : ℕ) {at : ℕ} {t t′ t″ : List ℕ} (a : A) (l : List A) →
+    Wrote k t′ (at + k * i) t″ (g a) → Wrote (k * i) t at t′ (flat (map g l)) → Wrote (k * (i + 1)) t at t″ (flat (map g (l ++ a ∷ [])))
+wrote-more g k i a l w v =
+    let wide : k * i + k ≡ k * (i + 1) = omega (arith, mul-add k i 1) in
+    rw (flat-one g l a, ← wide) (wrote-then v w)
+
+-- Nothing was written yet.
+pub wrote-none : (t : List ℕ) (at : ℕ) → Wrote 0 t at t []
+wrote-none t at = record { is = refl; long = refl }
+
+-- One byte more.
+pub wrote-byte : {at i v b : ℕ} {t t′ l : List ℕ} → v ≡ b → Wrote i t at t′ l → Wrote (i + 1) t at (set t′ (at + i) v) (l ++ b ∷ [])
+wrote-byte {at} {i} {t′ = t′} e w = wrote-then w (record { is = ap (λ (x : ℕ). set t′ (at + i) x) e; long = refl })
+
+-- Two bytes.
+pub wrote-two : (t : List ℕ) (at : ℕ) {v w x y : ℕ} → v ≡ x → w ≡ y → Wrote 2 t at (set (set t at v) (at + 1) w) (x ∷ y ∷ [])
+wrote-two t at e f = record { is = rw (add-one at, e, f); long = refl }
+
+-- A rate or price of one byte, its high byte 0.
+pub wrote-amount : (t : List ℕ) (at v : ℕ) → v < 256 → Wrote 2 t at (set (set t at v) (at + 1) 0) (v % 256 ∷ v / 256 ∷ [])
+wrote-amount t at v h = wrote-two t at (omega arith) (omega arith)

@@ -1,0 +1,31 @@
+-- `reader::table::guard` meets its contract. Assumes nothing.
+use mathlib.Core.Path.{sym}
+use Rattle.reader.specs.Theorems.Access.{guard-at}
+use borrow.Author.Needs.{needs}
+use Rattle.reader.proofs.table.guard.Statement.{statement}
+use Rattle.reader.proofs.table.guard.Tie as tie
+
+mul-result : tie.Need-mul-result
+mul-result c = search needs
+
+add-result : tie.Need-add-result
+add-result c = search needs
+
+add-result-2 : tie.Need-add-result-2
+add-result-2 c = search needs
+
+add-result-3 : tie.Need-add-result-3
+add-result-3 c = search needs
+
+element-copy-out-result : tie.Need-element-copy-out-result
+element-copy-out-result c = search needs
+
+returns : tie.Need-returns
+returns c =
+    let a = c .before .args in
+    sym (guard-at (a .table .now) (c .before .pre .0) (a .e) (c .before .pre .1) (a .place) (c .before .pre .2))
+
+pub guard-spec : {M : Type 1} → statement M
+guard-spec =
+    tie.close
+    (tie.spec mul-result add-result add-result-2 add-result-3 element-copy-out-result returns)

@@ -9,9 +9,8 @@ ghost use Rattle.semantics.specs.Chain.{step as Chain·step};
 ghost use Rattle.cases.specs.Step.{HasWords, CanStep};
 use crate::print;
 use crate::scripts;
-use crate::tables;
 use crate::tokens;
-use reader::Table;
+use reader::opened::Table;
 use regions::Region;
 use search::Searched;
 use search::places::Place;
@@ -19,22 +18,12 @@ use search::places::Stepped;
 
 const MOST_WORDS: usize = 6000;
 
-pub fn chain(steps: &[usize], bytes: &[u8]) -> bool {
+pub fn chain(table: Table, steps: &[usize]) -> bool
+    requires { ⌜ IsTable table ⌝ }
+{
     if tokens::MOST_NUMBERS < steps.len() {
         return false;
     }
-    let given = tables::judged(bytes);
-    if !given.accepted {
-        print::refused(given.refusal);
-        return true;
-    }
-    let table = given.table;
-    searched(table, steps)
-}
-
-fn searched(table: Table, steps: &[usize]) -> bool
-    requires { ⌜ IsTable table × (length (now steps) ≤ 256) ⌝ }
-{
     let mut words = [0u32; MOST_WORDS];
     let goal = table.goal;
     let answer = search::search(table, goal, &mut words);

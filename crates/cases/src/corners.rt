@@ -3,6 +3,10 @@ ghost use Prim.Native.Nat.{_≤_};
 ghost use Rattle.regions.specs.Held.{mostTimers};
 use crate::print;
 use regions::Region;
+use regions::nodes;
+
+// Ceilings by which there is one cell, so that nodes have the numbers of its corners.
+const ONE_CELL: [u8; Region::MOST_TIMERS] = [0; Region::MOST_TIMERS];
 
 pub fn corners(numbers: &[usize], bytes: &[u8]) -> bool {
     if bytes.len() != 0 {
@@ -28,16 +32,9 @@ fn found_again(timers: usize) -> usize
 {
     let mut found: usize = 0;
     for number in 0..Region::corners(timers) {
-        let at = Region::corner_at(timers, number);
-        let group = at.group;
-        let region = Region {
-            timers: timers as u8,
-            top: at.top,
-            whole: [0; Region::MOST_TIMERS],
-            group,
-            prices: [0; Region::MOST_CORNERS],
-        };
-        if region.corner(at.index) == number {
+        let at = nodes::region_at(timers, ONE_CELL, number);
+        let region = at.region;
+        if nodes::node_of(0, region, at.index, ONE_CELL) == number {
             found += 1;
         }
     }

@@ -6,10 +6,14 @@ mod print;
 mod readings;
 mod scripts;
 mod searches;
-mod tables;
 mod tokens;
 
+ghost use Rattle.reader.specs.Opened.{IsTable};
 use libc::STDIN_FILENO;
+use reader::Verdict;
+use reader::opened;
+use reader::opened::Table;
+use reader::table::TABLE;
 
 // A longer line is not run.
 const MOST_LINE: usize = 8192;
@@ -116,11 +120,33 @@ const CHAIN: usize = 0x63_6861_696e;
 fn called(word: usize, numbers: &[usize], bytes: &[u8]) -> bool {
     match word {
         PLAN => plans::plan(numbers, bytes),
-        READ => readings::read(numbers, bytes),
         REGION => scripts::region(numbers, bytes),
         CORNERS => corners::corners(numbers, bytes),
-        SEARCH => searches::search(numbers, bytes),
-        CHAIN => chains::chain(numbers, bytes),
+        READ | SEARCH | CHAIN => of_table(word, numbers, bytes),
+        _ => false,
+    }
+}
+
+// The calls that take a table, if the reader accepts its bytes.
+fn of_table(word: usize, numbers: &[usize], bytes: &[u8]) -> bool {
+    let mut table = [0u8; TABLE];
+    let verdict = reader::read(bytes, &mut table);
+    match verdict {
+        Verdict::Refused(n) => {
+            print::refused(n);
+            true
+        }
+        Verdict::Accepted => of_opened(word, numbers, opened::opened(&table)),
+    }
+}
+
+fn of_opened(word: usize, numbers: &[usize], table: Table) -> bool
+    requires { ⌜ IsTable table ⌝ }
+{
+    match word {
+        READ => readings::read(table, numbers),
+        SEARCH => searches::search(table, numbers),
+        CHAIN => chains::chain(table, numbers),
         _ => false,
     }
 }

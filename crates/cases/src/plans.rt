@@ -4,6 +4,7 @@ ghost use Prim.Native.Nat.{_≤_};
 use crate::print;
 use crate::tokens;
 use libc::STDOUT_FILENO;
+use report::Written;
 use route::Answer;
 
 const WORDS: usize = 129600;
@@ -50,8 +51,10 @@ fn told(words: &[u32; WORDS], route: &[u8; ROUTE], steps: usize) {
 // Prints the answer's lines.
 fn show(answer: Answer, route: &[u8; ROUTE]) {
     let mut text = [0u8; 1100];
-    let length = report::lines(answer, route, &mut text);
-    io::write_all(STDOUT_FILENO, &text[..length]);
+    let written = report::lines(answer, route, &mut text);
+    if let Written::Bytes(length) = written {
+        io::write_all(STDOUT_FILENO, &text[..length]);
+    }
 }
 
 // How many route bytes the answer fills.

@@ -1,32 +1,21 @@
-// `read: TABLE`: what the reader says of the bytes, with the counts, the goal and E of a table.
+// `read: TABLE`: the counts, the goal and E of the table that the reader takes the bytes for.
 ghost use Rattle.reader.specs.Opened.{IsTable};
 use crate::print;
-use crate::tables;
-use reader::Table;
+use reader::opened::Table;
 use regions::nodes::Nodes;
 
-pub fn read(numbers: &[usize], bytes: &[u8]) -> bool {
+pub fn read(table: Table, numbers: &[usize]) -> bool
+    requires { ⌜ IsTable table ⌝ }
+{
     if numbers.len() != 0 {
         return false;
     }
-    let given = tables::judged(bytes);
-    if !given.accepted {
-        print::refused(given.refusal);
-        return true;
-    }
-    let table = given.table;
-    fields(table);
-    true
-}
-
-fn fields(table: Table)
-    requires { ⌜ IsTable table ⌝ }
-{
     print::field(b"modes ", table.modes);
     print::field(b" timers ", table.timers);
     print::field(b" moves ", table.moves);
     print::field(b" goal ", table.goal);
     count(regions::nodes::node_count(table));
+    true
 }
 
 // E, or that it is above 65,536.

@@ -2,13 +2,14 @@
 ghost use Prim.Native.Nat.{_≤_};
 ghost use Rattle.reader.specs.Opened.{IsTable};
 use crate::print;
-use crate::tables;
-use reader::Table;
+use reader::opened::Table;
 use search::Searched;
 
 const MOST_WORDS: usize = 6000;
 
-pub fn search(numbers: &[usize], bytes: &[u8]) -> bool {
+pub fn search(table: Table, numbers: &[usize]) -> bool
+    requires { ⌜ IsTable table ⌝ }
+{
     if numbers.len() != 1 {
         return false;
     }
@@ -16,12 +17,6 @@ pub fn search(numbers: &[usize], bytes: &[u8]) -> bool {
     if MOST_WORDS < lent {
         return false;
     }
-    let given = tables::judged(bytes);
-    if !given.accepted {
-        print::refused(given.refusal);
-        return true;
-    }
-    let table = given.table;
     searched(table, lent);
     true
 }

@@ -4,7 +4,7 @@ use mathlib.Core.Path.{_∙_}
 use Prim.Native.Nat.{ℕ, _<_}
 use native.Mathlib.Omega.{arith}
 use lib.ListN.{getD}
-use Rattle.reader.specs.Opened.{IsTable}
+use Rattle.reader.specs.Held.{IsTable}
 use Rattle.reader.specs.Theorems.Holding.{accepted-table}
 use Rattle.reader.specs.Theorems.Opened.{opened-table}
 use Rattle.route.proofs.Planning.{outcome-keeps, planned-refused, planned-accepted}

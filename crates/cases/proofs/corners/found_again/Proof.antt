@@ -1,15 +1,20 @@
 -- `cases::corners::found_again` meets its contract. No more corners are found again than were looked at.
 -- Assumes nothing.
-use Prim.Native.Nat.{ℕ, suc, _-_, _≤_}
+use Prim.Native.Nat.{ℕ, zero, suc, _-_, _<_, _≤_}
 use mathlib.Core.Logic.{⊎-elim}
-use mathlib.Core.Path.{ap, _∙_}
+use mathlib.Core.Path.{_≡_, refl, _∙_}
+use mathlib.Core.List.{List, [], _∷_}
 use native.Mathlib.Omega.{arith}
-use lib.ListN.{length, replicate, length-replicate}
-use Rattle.regions.specs.declared.CornerAt.{CornerAt}
-use Rattle.regions.specs.Held.{mostTimers, packCorner}
-use Rattle.regions.specs.Laws.Chain.{valid-pack}
-use Rattle.regions.specs.Laws.Corners.{corner-well-formed, corner-inside}
-use Rattle.regions.specs.Laws.CornerRegion.{corner-valid}
+use lib.ListN.{take}
+use lib.Seq.{length-take-le}
+use Rattle.semantics.specs.Nodes.Node.{nodeAt}
+use Rattle.semantics.specs.Regions.Lists.{replicate-zero}
+use Rattle.regions.specs.declared.nodes.Around.{Around}
+use Rattle.regions.specs.Held.{mostTimers, view, Valid}
+use Rattle.regions.specs.Nodes.{mostModes, CeilingsFew, Padded, packAround}
+use Rattle.regions.specs.Laws.Fields.{holds, top-is}
+use Rattle.regions.specs.Laws.Nodes.{corners-few}
+use Rattle.regions.specs.Laws.Around.{around-holds}
 use Rattle.cases.proofs.corners.found_again.Statement.{statement}
 use Rattle.cases.proofs.corners.found_again.Tie as tie
 
@@ -25,30 +30,48 @@ corners-requires c κs = c .pre .1
 loop-holds : tie.Need-loop-holds Inv-loop μ-loop
 loop-holds c = omega arith
 
-corner-at-requires : tie.Need-corner-at-requires Inv-loop μ-loop
-corner-at-requires c κs = omega arith
+-- The ceilings, all 0.
+abbrev zeros : List ℕ
+zeros = 0 ∷ 0 ∷ 0 ∷ []
 
-cast-t9 : tie.Need-cast-t9 Inv-loop μ-loop
-cast-t9 c = omega arith
+zeros-few : CeilingsFew zeros
+zeros-few i = omega (arith, replicate-zero mostTimers i)
 
-corner-requires : tie.Need-corner-requires Inv-loop μ-loop
-unfolding packCorner
-corner-requires c κs =
-    let turn = c .before .before .before in
-    let entry = turn .before .before in
-    let n = entry .args .timers in
-    let i = turn .loop .number in
-    let at = c .before .corner-at in
-    let many = length-replicate {A = ℕ} n 0 in
-    let few : length (replicate {A = ℕ} n 0) ≤ mostTimers = omega arith in
-    let inside = corner-inside n i (entry .pre .0) (omega arith) in
-    let index = ap (λ (k : CornerAt). k .index) (at .ensures) in
-    let top = ap (λ (k : CornerAt). k .top) (at .ensures) in
-    let group = ap (λ (k : CornerAt). k .group) (at .ensures) in
-    let prices = replicate {A = ℕ} (suc (at .result .top)) 0 in
-    let priced = length-replicate {A = ℕ} (suc (at .result .top)) 0 ∙ ap suc top in
-    let w = corner-well-formed n i (entry .pre .0) (omega arith) (replicate n 0) prices many priced in
-    (corner-valid n (at .result) _ group (valid-pack _ w few), omega arith)
+zeros-padded : (n : ℕ) → n ≤ mostTimers → Padded n zeros
+zeros-padded zero h = refl
+zeros-padded (suc zero) h = refl
+zeros-padded (suc (suc zero)) h = refl
+zeros-padded (suc (suc (suc zero))) h = refl
+zeros-padded (suc (suc (suc (suc n)))) h = absurd (omega arith)
+
+region-at-requires : tie.Need-region-at-requires Inv-loop μ-loop
+region-at-requires c κs =
+    let called = c .before .before in
+    let start = called .before in
+    let n = start .args .timers in (
+      start .pre .0,
+      start .pre .1,
+      zeros-few,
+      zeros-padded n (start .pre .1),
+      omega (arith, called .corners .ensures, corners-few n (start .pre .1)),
+    )
+
+-- What `node_of` asks of the region around a number.
+ready :
+    (n i : ℕ) → 1 ≤ n → n ≤ mostTimers → (r : Around) → r ≡ packAround (take n zeros) (nodeAt (take n zeros) i)
+    → Valid (r .region) × (r .index ≤ r .region .top) × (0 < mostModes) × CeilingsFew zeros × Padded (r .region .timers) zeros
+ready n i some few r e =
+    let many = length-take-le n zeros (omega arith) in
+    let h = around-holds (take n zeros) (omega (arith, many)) (omega (arith, many)) i r e in
+    let top = top-is (r .region) (view (r .region)) (holds (r .region) (h .valid)) in
+    (h .valid, omega (arith, h .inside, top), omega arith, zeros-few, rw (h .timers-are ∙ many) (zeros-padded n few))
+
+node-of-requires : tie.Need-node-of-requires Inv-loop μ-loop
+node-of-requires c κs =
+    let at = c .before in
+    let turn = at .before .before in
+    let start = turn .before .before in
+    ready (start .args .timers) (turn .loop .number) (start .pre .0) (start .pre .1) (at .region-at .result) (at .region-at .ensures)
 
 add-found : tie.Need-add-found Inv-loop μ-loop
 add-found c = omega arith
@@ -73,9 +96,8 @@ found-again-spec =
     μ-loop
     corners-requires
     loop-holds
-    corner-at-requires
-    cast-t9
-    corner-requires
+    region-at-requires
+    node-of-requires
     add-found
     add-number
     loop-less

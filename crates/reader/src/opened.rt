@@ -6,6 +6,9 @@ ghost use Rattle.reader.specs.Held.{fieldsOf};
 ghost use Rattle.reader.specs.Held.{IsTable as IsBytes};
 ghost use Rattle.reader.specs.Opened.{held, Entries};
 use crate::CONDITIONS;
+use crate::MOST_MODES;
+use crate::MOST_MOVES;
+use crate::MOST_TIMERS;
 use crate::table;
 use crate::table::CEILINGS;
 use crate::table::GUARD;
@@ -18,12 +21,6 @@ use crate::table::PRICE;
 use crate::table::RESETS;
 use crate::table::TABLE;
 use crate::table::TARGET;
-
-pub const MOST_MODES: usize = 16;
-
-pub const MOST_TIMERS: usize = 3;
-
-pub const MOST_MOVES: usize = 64;
 
 // The fields of a table. Entries past the counts are 0.
 pub struct Table {

@@ -7,7 +7,7 @@ ghost use Rattle.search.specs.Regions.{automatonOf};
 ghost use Rattle.route.specs.Plan.{outcome, plannedTable, planned};
 ghost use Rattle.route.specs.Promise.{KeepsDemand};
 ghost use Rattle.route.specs.Walk.{Found, ReadOff, WalkReady, Walked, ChooseReady, Choice, RetraceReady, Retraces};
-use reader::opened::MOST_TIMERS;
+use reader::MOST_TIMERS;
 use reader::Verdict;
 use reader::opened;
 use reader::opened::Table;

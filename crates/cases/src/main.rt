@@ -116,13 +116,24 @@ const SEARCH: usize = 0x7365_6172_6368;
 
 const CHAIN: usize = 0x63_6861_696e;
 
-// Whether there is a call of that name that takes these numbers.
+// Whether there is a call of that name that takes these numbers and bytes. Bytes with no colon before them would be numbers.
 fn called(word: usize, numbers: &[usize], bytes: &[u8]) -> bool {
     match word {
         PLAN => plans::plan(numbers, bytes),
         REGION => scripts::region(numbers, bytes),
         CORNERS => corners::corners(numbers, bytes),
-        READ | SEARCH | CHAIN => of_table(word, numbers, bytes),
+        READ => {
+            if numbers.len() != 0 {
+                return false;
+            }
+            of_table(word, numbers, bytes)
+        }
+        SEARCH | CHAIN => {
+            if bytes.len() == 0 {
+                return false;
+            }
+            of_table(word, numbers, bytes)
+        }
         _ => false,
     }
 }
@@ -144,7 +155,7 @@ fn of_opened(word: usize, numbers: &[usize], table: Table) -> bool
     requires { ⌜ IsTable table ⌝ }
 {
     match word {
-        READ => readings::read(table, numbers),
+        READ => readings::read(table),
         SEARCH => searches::search(table, numbers),
         CHAIN => chains::chain(table, numbers),
         _ => false,

@@ -1,6 +1,8 @@
 // `plan WORDS ROUTE: TABLE`: the call that plans a table, with so many words and route bytes lent. The words hold 7 before and the route bytes 9;
 // after the call each of them is looked at, also behind the parts that were lent.
 ghost use Prim.Native.Nat.{_≤_};
+ghost use mathlib.Core.Path.{_≡_};
+ghost use lib.ListN.{length};
 use crate::print;
 use crate::tokens;
 use libc::STDOUT_FILENO;
@@ -32,11 +34,18 @@ pub fn plan(numbers: &[usize], bytes: &[u8]) -> bool {
 fn planned(bytes: &[u8], lent: usize, room: usize)
     requires { ⌜ (lent ≤ 129600) × (room ≤ 256) ⌝ }
 {
-    let mut words = [7u32; WORDS];
+    let mut words = sevens();
     let mut route = [9u8; ROUTE];
     let answer = route::plan(bytes, &mut words[..lent], &mut route[..room]);
     show(answer, &route);
     told(&words, &route, steps(answer));
+}
+
+// The words before a call. Of so many, only the length is told, so that no proof looks into them.
+fn sevens() -> [u32; WORDS]
+    ensures { λ r. ⌜ 129600 ≡ length r ⌝ }
+{
+    [7u32; WORDS]
 }
 
 fn told(words: &[u32; WORDS], route: &[u8; ROUTE], steps: usize) {

@@ -4,12 +4,9 @@ use crate::print;
 use reader::opened::Table;
 use regions::nodes::Nodes;
 
-pub fn read(table: Table, numbers: &[usize]) -> bool
+pub fn read(table: Table) -> bool
     requires { ⌜ IsTable table ⌝ }
 {
-    if numbers.len() != 0 {
-        return false;
-    }
     print::field(b"modes ", table.modes);
     print::field(b" timers ", table.timers);
     print::field(b" moves ", table.moves);

@@ -32,7 +32,9 @@ impl Draft {
     /// Any table of so many timers that the unit has the words for.
     pub fn any(timers: u8, random: &mut Random) -> Draft {
         loop {
-            let modes = random.within(1, MOST_MODES as u8);
+            // Large tables are costlier, so most begin with many modes.
+            let least = random.within(1, MOST_MODES as u8);
+            let modes = random.within(least, MOST_MODES as u8);
             let mut draft = Draft {
                 goal: random.within(0, modes - 1),
                 ceilings: (0..timers).map(|_| random.within(1, MOST_CEILING)).collect(),
@@ -131,7 +133,8 @@ impl Draft {
                 1 => Some(random.pick(&[0, 1, 255])),
                 2..5 => Some(old.unwrap_or(0).saturating_add(random.within(1, 9))),
                 5 => Some(old.unwrap_or(0).saturating_sub(random.within(1, 9))),
-                _ => Some(random.draw() as u8),
+                // Of any size, as small ones decide where large ones are even.
+                _ => Some(random.draw() as u8 >> random.below(8)),
             },
             RESETS => (!random.one_in(6)).then(|| random.below(1 << self.ceilings.len()) as u8),
             _ => match random.below(8) {

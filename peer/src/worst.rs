@@ -17,9 +17,16 @@ const HERD: usize = 8;
 const DRAWN: u32 = 500;
 /// After so many changes by which the costliest of a herd grew by less than a hundredth, a new herd
 /// is drawn.
-const MOST_FRUITLESS: u32 = 1_000;
+const MOST_FRUITLESS: usize = 10_000;
 /// Calls of which the best counts, where the clock is all there is.
-const TIMED_CALLS: u32 = 5;
+const TIMED_CALLS: u32 = 3;
+/// What the ratio of two times varies by when it is taken again.
+const TIMES_VARY: f64 = 1.02;
+/// By how much one call's time may make a table look too cheap.
+const LOOK_OFF: f64 = 1.2;
+/// After so many changes each, the next of the herd and the costliest of all are weighed again.
+const REFRESHED: usize = 16;
+const WORST_REFRESHED: usize = 256;
 /// The bytes in a line of a file of tables/.
 const BYTES_IN_LINE: usize = 24;
 
@@ -32,8 +39,8 @@ struct Weighed {
     dijkstra: u64,
     /// None if there is no route.
     steps: Option<usize>,
-    /// What is to grow: the instructions, or else the ratio of the times, which is the same on a
-    /// machine that is busy.
+    /// What is to grow: the instructions, or else the ratio of the times, which depends less on what
+    /// else the machine does than a time.
     cost: f64,
 }
 
@@ -87,14 +94,32 @@ fn weigh(draft: &Draft, calls: u32, meter: &Meter) -> Option<Weighed> {
     Some(weighed)
 }
 
-/// Weighs a table if it may cost this much. A count is the same every time; of times one call tells
-/// whether the others are worth making.
+/// Weighs a table, unless it costs less than this. A count is the same every time. Of times one call
+/// tells whether more are worth making; then the lesser of two weighings counts, so that what other
+/// programs took from one of them is not kept as the table's cost.
 fn weigh_from(least: f64, draft: &Draft, meter: &Meter) -> Option<Weighed> {
-    let mut weighed = weigh(draft, 1, meter)?;
-    if matches!(meter, Meter::Clock) && weighed.cost * 1.1 >= least {
-        weighed = weigh(draft, TIMED_CALLS, meter)?;
-    }
+    let look = weigh(draft, 1, meter)?;
+    let weighed = match meter {
+        Meter::Instructions(_) => look,
+        Meter::Clock if look.cost * LOOK_OFF < least => return None,
+        Meter::Clock => {
+            let one = weigh(draft, TIMED_CALLS, meter)?;
+            let other = weigh(draft, TIMED_CALLS, meter)?;
+            if one.cost < other.cost {
+                one
+            } else {
+                other
+            }
+        }
+    };
     (weighed.cost >= least).then_some(weighed)
+}
+
+/// Weighs a kept table once more where times are taken, and has what comes out as its cost.
+fn weigh_again(kept: &mut Weighed, meter: &Meter) {
+    if let (Meter::Clock, Some(again)) = (meter, weigh(&kept.draft, TIMED_CALLS, meter)) {
+        *kept = again;
+    }
 }
 
 /// What is bred, and until when.
@@ -110,9 +135,11 @@ impl Breeding {
         Instant::now() >= self.ends
     }
 
-    /// Notes a table, and says so if none was costlier.
+    /// Notes a table if it is costlier than all before, and says so. Of times, a difference that they
+    /// vary by anyway makes none costlier.
     fn note(&mut self, weighed: &Weighed) {
-        if self.worst.as_ref().is_none_or(|worst| weighed.cost > worst.cost) {
+        let by = if matches!(self.meter, Meter::Clock) { TIMES_VARY } else { 1.0 };
+        if self.worst.as_ref().is_none_or(|worst| weighed.cost > by * worst.cost) {
             println!("{}", weighed.line(&self.meter));
             self.worst = Some(weighed.clone());
         }
@@ -133,6 +160,18 @@ impl Breeding {
         Some(cost)
     }
 
+    /// Weighs some of what was kept again. A table that looked costly at a moment when the machine
+    /// was busy would otherwise stay for good, and keep out what is costlier.
+    fn refresh(&mut self, herd: &mut [Weighed], tries: usize) {
+        if tries.is_multiple_of(REFRESHED) {
+            let next = tries / REFRESHED % herd.len();
+            weigh_again(&mut herd[next], &self.meter);
+        }
+        if let Some(worst) = self.worst.as_mut().filter(|_| tries.is_multiple_of(WORST_REFRESHED)) {
+            weigh_again(worst, &self.meter);
+        }
+    }
+
     /// Breeds one herd until it grows no costlier, or time is over.
     fn breed(&mut self, timers: u8, random: &mut Random) {
         let mut herd = Vec::new();
@@ -142,13 +181,16 @@ impl Breeding {
             }
             self.admit(&mut herd, &Draft::any(timers, random));
         }
-        let (mut grown, mut fruitless) = (0.0, 0);
-        while fruitless < MOST_FRUITLESS && !self.is_over() {
-            let child = parent(&herd, random).draft.changed(random);
-            fruitless += 1;
-            if let Some(cost) = self.admit(&mut herd, &child).filter(|&cost| cost > 1.01 * grown) {
-                (grown, fruitless) = (cost, 0);
+        let (mut grown, mut grown_at) = (0.0, 0);
+        for tries in 1.. {
+            if tries - grown_at > MOST_FRUITLESS || self.is_over() {
+                return;
             }
+            let child = parent(&herd, random).draft.changed(random);
+            if let Some(cost) = self.admit(&mut herd, &child).filter(|&cost| cost > 1.01 * grown) {
+                (grown, grown_at) = (cost, tries);
+            }
+            self.refresh(&mut herd, tries);
         }
     }
 }
@@ -263,6 +305,7 @@ mod tests {
         }
         assert_eq!(herd.len(), HERD);
         let most = herd.iter().map(|weighed| weighed.cost).fold(0.0, f64::max);
-        assert_eq!(breeding.worst.map(|worst| worst.cost), Some(most));
+        let worst = breeding.worst.map_or(0.0, |worst| worst.cost);
+        assert!(worst <= most && most <= TIMES_VARY * worst, "{worst} {most}");
     }
 }

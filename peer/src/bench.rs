@@ -1,10 +1,9 @@
 //! Measures the three planners side by side.
 
+use crate::call::{Call, Planner, PLANNERS};
 use crate::measure::{heap_bytes, instructions, stack_bytes};
-use crate::paper::{self, Outcome};
+use crate::paper::Outcome;
 use crate::table::{node_count, read};
-use crate::{dijkstra, proved};
-use std::hint::black_box;
 use std::process::ExitCode;
 use std::time::{Duration, Instant};
 
@@ -15,90 +14,23 @@ macro_rules! tables {
 }
 
 /// The tables that are measured: name, and bytes in hexadecimal with comments after `#`.
-const TABLES: [(&str, &str); 16] = tables![
+const TABLES: [(&str, &str); 19] = tables![
     "T" "figure-2"
     "one-timer-narrow-24" "one-timer-narrow-64" "one-timer-wide-24" "one-timer-wide-64"
     "unit-24" "unit-64" "two-timers-wide-24" "two-timers-wide-64"
     "three-timers-narrow-24" "three-timers-narrow-64" "three-timers-wide-24" "three-timers-wide-64"
+    "worst-one-timer" "worst-two-timers" "worst-three-timers"
     "largest-narrow-64" "largest-wide-64"
 ];
 
-/// The route bytes lent, as many as the unit lends.
-const ROUTE_BYTES: usize = 256;
-/// States that the paper's algorithm takes from WAITING before it gives up: some seconds.
-const MOST_ROUNDS: u64 = 20_000_000;
 /// How long each table is timed for, unless so many runs were made before.
 const TIMED_FOR: Duration = Duration::from_secs(2);
 const MOST_RUNS: usize = 10_000;
 
-fn bytes(text: &str) -> Vec<u8> {
+pub fn bytes(text: &str) -> Vec<u8> {
     let lines = text.lines().map(|line| line.split('#').next().unwrap_or(""));
     let byte = |hex| u8::from_str_radix(hex, 16).expect("a table's bytes are hexadecimal");
     lines.flat_map(str::split_whitespace).map(byte).collect()
-}
-
-#[derive(Clone, Copy, PartialEq, Eq)]
-enum Planner {
-    Proved,
-    Dijkstra,
-    Paper,
-}
-
-const PLANNERS: [Planner; 3] = [Planner::Proved, Planner::Dijkstra, Planner::Paper];
-
-impl Planner {
-    fn name(self) -> &'static str {
-        match self {
-            Planner::Proved => "proved",
-            Planner::Dijkstra => "Dijkstra",
-            Planner::Paper => "paper",
-        }
-    }
-}
-
-/// A call of a planner, with the memory that it is lent and what came out of it last.
-struct Call {
-    planner: Planner,
-    bytes: Vec<u8>,
-    words: Vec<u32>,
-    route: [u8; ROUTE_BYTES],
-    steps: usize,
-    outcome: Outcome,
-}
-
-impl Call {
-    fn new(planner: Planner, bytes: &[u8], nodes: u64) -> Call {
-        Call {
-            planner,
-            bytes: bytes.to_vec(),
-            words: vec![0; 2 * nodes as usize],
-            route: [0; ROUTE_BYTES],
-            steps: 0,
-            outcome: Outcome::GaveUp,
-        }
-    }
-
-    /// Makes the call. The paper's algorithm starts from a table that was read.
-    fn make(&mut self) {
-        let bytes = black_box(&self.bytes);
-        let outcome = match self.planner {
-            Planner::Proved => {
-                let mut charge = 0;
-                let (words, route) = (&mut self.words, &mut self.route);
-                match proved::plan(bytes, words, route, &mut charge, &mut self.steps) {
-                    proved::ROUTE => Outcome::Charge(charge),
-                    _ => Outcome::Unreachable,
-                }
-            }
-            Planner::Dijkstra => match dijkstra::plan(bytes, self.words.len(), ROUTE_BYTES) {
-                dijkstra::Answer::Route { charge, .. } => Outcome::Charge(charge),
-                _ => Outcome::Unreachable,
-            },
-            Planner::Paper => read(bytes)
-                .map_or(Outcome::GaveUp, |table| paper::least_charge(&table, MOST_ROUNDS)),
-        };
-        self.outcome = black_box(outcome);
-    }
 }
 
 /// The name of the function in which valgrind counts.
@@ -110,11 +42,18 @@ extern "C" fn peer_measured(call: &mut Call) {
     call.make();
 }
 
+/// The instructions of a call, as valgrind counts them; the table is told by its name or in
+/// hexadecimal. None if there is no valgrind.
+pub fn instructions_of(table: &str, planner: Planner) -> Option<u64> {
+    instructions(MEASURED, &["measured", table, planner.name()])
+}
+
 /// Makes a first call outside of what is measured, of T, and one inside. It is run by valgrind.
 pub fn measured(table: &str, planner: &str) -> ExitCode {
     let planner = PLANNERS.into_iter().find(|known| known.name() == planner);
-    let text = TABLES.into_iter().find(|(name, _)| *name == table);
-    let (Some(planner), Some((_, text))) = (planner, text) else { return ExitCode::from(2) };
+    let Some(planner) = planner else { return ExitCode::from(2) };
+    let known = TABLES.into_iter().find(|(name, _)| *name == table);
+    let text = known.map_or(table, |(_, text)| text);
     let call = |text| {
         let bytes = bytes(text);
         let nodes = read(&bytes).map_or(0, |table| node_count(&table));
@@ -159,20 +98,23 @@ fn row(name: &str, bytes: &[u8]) -> Result<Vec<String>, String> {
     let mut calls = PLANNERS.map(|planner| Call::new(planner, bytes, nodes));
     calls.iter_mut().for_each(Call::make);
     let outcomes = calls.each_ref().map(|call| call.outcome);
-    let agrees = |other| other == outcomes[0] || other == Outcome::GaveUp;
-    if !matches!(outcomes[0], Outcome::Charge(_)) || !outcomes.into_iter().all(agrees) {
+    let agrees = |other| other == outcomes[0] || other == Some(Outcome::GaveUp);
+    if outcomes[0].is_none() || !outcomes.into_iter().all(agrees) {
         return Err(format!("{outcomes:?}"));
     }
-    let counts = [nodes, table.moves.len() as u64, calls[0].steps as u64];
     let mut cells = vec![name.into()];
-    cells.extend(counts.map(grouped));
+    cells.extend([nodes, table.moves.len() as u64].map(grouped));
+    cells.push(match outcomes[0] {
+        Some(Outcome::Charge(_)) => grouped(calls[0].steps as u64),
+        _ => "no route".into(),
+    });
     let times = best_times(&mut calls);
     for (call, time) in calls.iter_mut().zip(times) {
-        if call.outcome == Outcome::GaveUp {
+        if call.outcome == Some(Outcome::GaveUp) {
             cells.extend(["gave up", "-", "-", "-"].map(String::from));
             continue;
         }
-        let counted = instructions(MEASURED, &["measured", name, call.planner.name()]);
+        let counted = instructions_of(name, call.planner);
         cells.push(counted.map_or("-".into(), grouped));
         cells.push(format!("{:.1}", time.as_secs_f64() * 1e6));
         cells.push(grouped(stack_bytes(|| call.make()) as u64));
@@ -197,7 +139,7 @@ fn best_times(calls: &mut [Call; 3]) -> [Duration; 3] {
     let begun = Instant::now();
     for _ in 0..MOST_RUNS {
         for (call, best) in calls.iter_mut().zip(&mut best) {
-            if call.outcome != Outcome::GaveUp {
+            if call.outcome != Some(Outcome::GaveUp) {
                 let begun = Instant::now();
                 call.make();
                 *best = begun.elapsed().min(*best);
@@ -211,7 +153,7 @@ fn best_times(calls: &mut [Call; 3]) -> [Duration; 3] {
 }
 
 /// A number with a comma before every three digits.
-fn grouped(number: u64) -> String {
+pub fn grouped(number: u64) -> String {
     let digits = number.to_string();
     let mut text = String::new();
     for (at, digit) in digits.chars().enumerate() {

@@ -1,23 +1,30 @@
 //! Cross-checks the proved planner against two independent ones, and measures all three.
 
 mod bench;
+mod call;
 mod dijkstra;
+mod draft;
 mod fuzz;
 mod generate;
 mod grid;
 mod measure;
+mod meter;
 mod paper;
 mod proved;
 mod random;
 mod runs;
 mod shape;
 mod table;
+mod worst;
 
 use std::process::ExitCode;
 
 const USAGE: &str = "usage:
   peer fuzz SEED COUNT   compare the planners on COUNT tables drawn from SEED
-  peer bench             measure the planners on the tables of the folder tables";
+  peer bench             measure the planners on the tables of the folder tables
+  peer worst SEED SECONDS [TIMERS]
+                         breed tables that are costly for the proved planner, for so long, and
+                         print the costliest as a file of that folder";
 
 fn main() -> ExitCode {
     let arguments: Vec<String> = std::env::args().skip(1).collect();
@@ -29,10 +36,26 @@ fn main() -> ExitCode {
             }
         }
         ["bench"] => return bench::run(),
+        ["worst", seed, seconds, ref timers @ ..] => {
+            if let (Ok(seed), Ok(seconds), Some(timers)) =
+                (seed.parse(), seconds.parse(), timers_of(timers))
+            {
+                return worst::run(seed, seconds, timers);
+            }
+        }
         // What the bench runs under valgrind.
         ["measured", table, planner] => return bench::measured(table, planner),
         _ => (),
     }
     eprintln!("{USAGE}");
     ExitCode::from(2)
+}
+
+/// The number of timers, if one is given. None if it is none that a table may have.
+fn timers_of(arguments: &[&str]) -> Option<Option<u8>> {
+    match arguments {
+        [] => Some(None),
+        [timers] => timers.parse().ok().filter(|timers| (1..=3).contains(timers)).map(Some),
+        _ => None,
+    }
 }

@@ -137,9 +137,9 @@ impl Shape {
 }
 
 /// A record before it is written: the field of each bit of its map.
-type Fields = [Option<u8>; 8];
+pub type Fields = [Option<u8>; 8];
 
-fn write(bytes: &mut Vec<u8>, fields: Fields, modes: &[u8]) {
+pub fn write(bytes: &mut Vec<u8>, fields: Fields, modes: &[u8]) {
     bytes.push((0..8).map(|bit| u8::from(fields[bit].is_some()) << bit).sum());
     bytes.extend(modes);
     bytes.extend(fields.into_iter().flatten());

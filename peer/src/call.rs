@@ -1,0 +1,81 @@
+//! A planner called with the memory that it needs, to be measured.
+
+use crate::dijkstra::{self, Answer};
+use crate::paper::{self, Outcome};
+use crate::proved;
+use crate::table::read;
+use std::hint::black_box;
+
+/// The route bytes lent, as many as the unit lends.
+const ROUTE_BYTES: usize = 256;
+/// States that the paper's algorithm takes from WAITING before it gives up: some seconds.
+const MOST_ROUNDS: u64 = 20_000_000;
+
+#[derive(Clone, Copy, PartialEq, Eq)]
+pub enum Planner {
+    Proved,
+    Dijkstra,
+    Paper,
+}
+
+pub const PLANNERS: [Planner; 3] = [Planner::Proved, Planner::Dijkstra, Planner::Paper];
+
+impl Planner {
+    pub fn name(self) -> &'static str {
+        match self {
+            Planner::Proved => "proved",
+            Planner::Dijkstra => "Dijkstra",
+            Planner::Paper => "paper",
+        }
+    }
+}
+
+/// A call of a planner, with the memory that it is lent and what came out of it last.
+pub struct Call {
+    pub planner: Planner,
+    bytes: Vec<u8>,
+    words: Vec<u32>,
+    route: [u8; ROUTE_BYTES],
+    /// Of the route, if the proved planner found one.
+    pub steps: usize,
+    /// None if the table was refused, or no call was made yet.
+    pub outcome: Option<Outcome>,
+}
+
+impl Call {
+    pub fn new(planner: Planner, bytes: &[u8], nodes: u64) -> Call {
+        Call {
+            planner,
+            bytes: bytes.to_vec(),
+            words: vec![0; 2 * nodes as usize],
+            route: [0; ROUTE_BYTES],
+            steps: 0,
+            outcome: None,
+        }
+    }
+
+    /// Makes the call. The paper's algorithm starts from a table that was read.
+    pub fn make(&mut self) {
+        let bytes = black_box(&self.bytes);
+        let outcome = match self.planner {
+            Planner::Proved => {
+                let mut charge = 0;
+                let (words, route) = (&mut self.words, &mut self.route);
+                match proved::plan(bytes, words, route, &mut charge, &mut self.steps) {
+                    proved::ROUTE => Some(Outcome::Charge(charge)),
+                    proved::NO_ROUTE => Some(Outcome::Unreachable),
+                    _ => None,
+                }
+            }
+            Planner::Dijkstra => match dijkstra::plan(bytes, self.words.len(), ROUTE_BYTES) {
+                Answer::Route { charge, .. } => Some(Outcome::Charge(charge)),
+                Answer::NoRoute => Some(Outcome::Unreachable),
+                Answer::Refused(_) => None,
+            },
+            Planner::Paper => {
+                read(bytes).ok().map(|table| paper::least_charge(&table, MOST_ROUNDS))
+            }
+        };
+        self.outcome = black_box(outcome);
+    }
+}

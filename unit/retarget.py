@@ -11,7 +11,7 @@ import sys
 
 # Inlined these would have their frames, each with copies of a table, on the stack at once; apart they use the same stack
 # one after the other.
-APART = ['reader::read', 'reader::opened::opened', 'search::search', 'route::read_route']
+APART = ['reader::read', 'rules::make', 'search::search', 'route::read_route']
 
 # Tag_ABI_VFP_args: no float is passed, so the calls are the same under either float ABI. Without this the linker refuses
 # firmware with hard floats.

@@ -1,3 +1,3 @@
 -- The laws that the functions' proofs cite.
+pub mod Numbers
 pub mod Steps
-pub mod Standing

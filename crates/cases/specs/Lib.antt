@@ -1,2 +1,4 @@
--- What a step of a script keeps.
-pub mod Step
+-- What was read of a line.
+pub mod Line
+-- What operations and steps keep.
+pub mod Kept

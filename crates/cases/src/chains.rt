@@ -1,132 +1,99 @@
 // `chain STEP STEP ..: TABLE`: the places of a chain, and what the words of a search say of each.
-ghost use Prim.Native.Nat.{_≤_};
-ghost use mathlib.Core.Path.{_≡_};
-ghost use lib.ListN.{length};
-ghost use Rattle.reader.specs.Opened.{IsTable};
-ghost use Rattle.search.specs.Places.{StepReady, IsStep, WordsReady, packStep, viewPlace};
-ghost use Rattle.search.specs.Regions.{automatonOf};
-ghost use Rattle.semantics.specs.Chain.{step as Chain·step};
-ghost use Rattle.cases.specs.Step.{HasWords, CanStep};
+ghost use Prim.Native.Nat.{_-_, _<_, _≤_};
+ghost use Rattle.reader.specs.Held.{IsTable};
+ghost use Rattle.cases.specs.Kept.{OnChain};
+use crate::places;
+use crate::places::Place;
 use crate::print;
 use crate::scripts;
+use crate::searches;
 use crate::tokens;
-use reader::opened::Table;
+use crate::tokens::TOKENS;
+use reader::table;
+use reader::table::TABLE;
 use regions::Region;
+use regions::nodes;
 use search::Searched;
-use search::places::Place;
-use search::places::Stepped;
 
-const MOST_WORDS: usize = 6000;
+const WORDS: usize = 6000;
 
-pub fn chain(table: Table, steps: &[usize]) -> bool
-    requires { ⌜ IsTable table ⌝ }
+pub fn chain(table: &[u8; TABLE], numbers: &[usize; TOKENS], end: usize)
+    requires { ⌜ IsTable (now table) ⌝ }
 {
-    if tokens::MOST_NUMBERS < steps.len() {
-        return false;
-    }
-    let mut words = [0u32; MOST_WORDS];
-    let goal = table.goal;
-    let answer = search::search(table, goal, &mut words);
+    let mut words = [0u32; WORDS];
+    let answer = searches::searched(table, &mut words);
     match answer {
-        Searched::Refused(n) => {
-            print::refused(n);
-            true
-        }
-        Searched::Nodes(_) => follow(table, &words, steps),
+        Searched::Refused(n) => print::refused(n),
+        Searched::Nodes(_) => follow(table, &words, numbers, end),
     }
 }
 
 // The start and the places after the steps, as far as the steps are allowed.
-fn follow(table: Table, words: &[u32], steps: &[usize]) -> bool
-    requires { ⌜ HasWords table (length (now words)) × (length (now steps) ≤ 256) ⌝ }
+fn follow(table: &[u8; TABLE], words: &[u32; WORDS], numbers: &[usize; TOKENS], end: usize)
+    requires { ⌜ IsTable (now table) ⌝ }
 {
-    let ceilings = table.ceilings;
-    let mut place = Place::start(table);
+    let mut place = places::start(table);
     print::text(b"start");
-    show(words, place, ceilings, 0);
-    for i in 0..steps.len() {
-        let step = steps[i];
-        if 255 < step {
-            return false;
+    show(table, words, place, 0);
+    for i in 1..TOKENS {
+        if (end <= i) | !place.allowed {
+            return;
         }
-        print::field(b"step ", step);
-        let stepped = next_place(table, place, step as u8);
-        if !stepped.allowed {
-            print::line(b": not allowed");
-            return true;
-        }
-        place = stepped.place;
-        show(words, place, ceilings, i + 1);
+        place = next(table, words, place, tokens::at(numbers, i), i);
     }
-    true
 }
 
-// A step in the table's graph.
-fn next_place(table: Table, place: Place, byte: u8) -> Stepped
-    requires { ⌜ CanStep table place ⌝ }
-    ensures { λ r. ⌜ r ≡ packStep place (Chain·step (automatonOf table) byte (viewPlace place)) ⌝ }
+// The place after one step more, which makes so many.
+fn next(table: &[u8; TABLE], words: &[u32; WORDS], place: Place, step: usize, steps: usize) -> Place
+    requires { ⌜ (steps ≤ 1024) × OnChain (now table) (1025 - steps) (place .mode) (place .region) ⌝ }
+    ensures { λ r. ⌜ OnChain (now (table .entry)) (1024 - steps) (r .mode) (r .region) ⌝ }
 {
-    let ceilings = table.ceilings;
-    step(
-        place,
-        byte,
-        table.moves,
-        ceilings,
-        &table.rates,
-        &table.invariants,
-        &table.sources,
-        &table.targets,
-        &table.prices,
-        &table.guards,
-        &table.resets,
-    )
-}
-
-// A step with the arrays lent at one lifetime, as a table that is held lends them.
-fn step<'a>(
-    place: Place,
-    byte: u8,
-    moves: usize,
-    ceilings: [u8; Region::MOST_TIMERS],
-    rates: &'a [u16],
-    invariants: &'a [u8],
-    sources: &'a [u8],
-    targets: &'a [u8],
-    prices: &'a [u16],
-    guards: &'a [u8],
-    resets: &'a [u8],
-) -> Stepped
-    requires { ⌜
-        StepReady place moves ceilings (now rates) (now invariants) (now sources) (now targets) (now prices) (now guards) (now resets)
-        ⌝ }
-    ensures { λ r. ⌜
-        IsStep place byte moves ceilings (now (rates .entry)) (now (invariants .entry)) (now (sources .entry)) (now (targets .entry))
-        (now (prices .entry)) (now (guards .entry)) (now (resets .entry)) r
-        ⌝ }
-{
-    place.step(
-        byte,
-        moves,
-        ceilings,
-        rates,
-        invariants,
-        sources,
-        targets,
-        prices,
-        guards,
-        resets,
-    )
+    print::with(b"step A", step);
+    let after = places::step(table, place.mode, place.region, step);
+    show(table, words, after, steps);
+    after
 }
 
 // The place, and whether it stands by the words after so many steps.
-fn show(words: &[u32], place: Place, ceilings: [u8; Region::MOST_TIMERS], steps: usize)
-    requires { ⌜ WordsReady place ceilings (now words) × (steps ≤ 256) ⌝ }
+fn show(table: &[u8; TABLE], words: &[u32; WORDS], place: Place, steps: usize)
+    requires { ⌜ OnChain (now table) 0 (place .mode) (place .region) ⌝ }
 {
-    if place.stands(ceilings, words, steps as u32) {
-        print::field(b", stands in mode ", place.mode);
-    } else {
-        print::field(b", does not stand in mode ", place.mode);
-    }
+    let mode = place.mode;
     let region = place.region;
+    if !place.allowed {
+        print::text(b": not allowed\n");
+        return;
+    }
+    let node = nodes::node_of(mode, region, 0, table::ceilings(table));
+    if stands(words, node, region, steps) {
+        print::with(b", stands in mode A", mode);
+    } else {
+        print::with(b", does not stand in mode A", mode);
+    }
     scripts::parts(region);
+}
+
+// Whether the words say of some corner that it costs its price and so many steps. The first corner is the node.
+fn stands(words: &[u32; WORDS], node: usize, region: Region, steps: usize) -> bool {
+    let mut some = false;
+    for corner in 0..Region::MOST_CORNERS {
+        some = some | costs(words, node, region, corner, steps);
+    }
+    some
+}
+
+// Whether they say so of a corner, if the region has it. The corners are nodes in a row.
+fn costs(words: &[u32; WORDS], node: usize, region: Region, corner: usize, steps: usize) -> bool
+    requires { ⌜ corner < 4 ⌝ }
+{
+    let prices = region.prices;
+    let at = 2 * (node % WORDS + corner);
+    (corner <= region.top as usize)
+        & (word(words, at) == prices[corner] as usize)
+        & (word(words, at + 1) == steps)
+}
+
+// A word. Those of every node are there; past the last the first come again.
+fn word(words: &[u32; WORDS], at: usize) -> usize {
+    searches::wide(words[at % WORDS])
 }

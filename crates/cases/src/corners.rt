@@ -2,29 +2,18 @@
 ghost use Prim.Native.Nat.{_≤_};
 ghost use Rattle.regions.specs.Held.{mostTimers};
 use crate::print;
+use crate::scripts;
 use regions::Region;
 use regions::nodes;
 
 // Ceilings by which there is one cell, so that nodes have the numbers of its corners.
 const ONE_CELL: [u8; Region::MOST_TIMERS] = [0; Region::MOST_TIMERS];
 
-pub fn corners(numbers: &[usize], bytes: &[u8]) -> bool {
-    if bytes.len() != 0 {
-        return false;
-    }
-    if numbers.len() != 1 {
-        return false;
-    }
-    let timers = numbers[0];
-    if timers < 1 {
-        return false;
-    }
-    if Region::MOST_TIMERS < timers {
-        return false;
-    }
-    print::field(b"corners found again ", found_again(timers));
-    print::end_line();
-    true
+pub fn corners(number: usize) {
+    print::with(
+        b"corners found again A\n",
+        found_again(scripts::timers(number)),
+    );
 }
 
 fn found_again(timers: usize) -> usize

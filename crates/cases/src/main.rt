@@ -1,6 +1,8 @@
 // Runs the script on standard input, a case to a line, and prints what comes out. The script's first lines say how a case is written.
 mod chains;
 mod corners;
+mod operations;
+mod places;
 mod plans;
 mod print;
 mod readings;
@@ -8,156 +10,90 @@ mod scripts;
 mod searches;
 mod tokens;
 
-ghost use Rattle.reader.specs.Opened.{IsTable};
+ghost use Rattle.reader.specs.Held.{IsTable};
 use libc::STDIN_FILENO;
 use reader::Verdict;
-use reader::opened;
-use reader::opened::Table;
 use reader::table::TABLE;
+use tokens::TOKENS;
 
-// A longer line is not run.
-const MOST_LINE: usize = 8192;
-
-// The script is read in parts of 4,096 bytes, up to some 17 terabytes.
+// Of a script the first 65,536 bytes are run.
 fn main() {
-    let mut line = [0u8; MOST_LINE];
-    let mut held = 0;
-    for _ in 0..0xFFFF_FFFFu32 {
-        let mut part = io::buffer();
-        let n = io::read_full(STDIN_FILENO, &mut part);
-        held = feed(&part[..n], &mut line, held);
-        if n < 4096 {
-            break;
+    let mut script = io::large_buffer();
+    let n = io::read_full(STDIN_FILENO, &mut script);
+    run(&script[..n]);
+}
+
+// Runs each line that has its end.
+fn run(script: &[u8]) {
+    let mut from = 0;
+    for at in 0..script.len() {
+        if script[at] == b'\n' {
+            run_line(&script[from..at]);
+            from = at + 1;
         }
     }
-    finish(&line, held);
 }
 
-// A last line that has no end.
-fn finish(line: &[u8; MOST_LINE], held: usize) {
-    if 0 < held {
-        run(line, held);
-    }
-}
-
-// Each byte of the part joins the line, whose first bytes are held, and each line's end runs it. Answers how many bytes are held then.
-fn feed(part: &[u8], line: &mut [u8; MOST_LINE], held: usize) -> usize {
-    let mut n = held;
-    for i in 0..part.len() {
-        let byte = part[i];
-        if byte == b'\n' {
-            run(line, n);
-            n = 0;
-        } else {
-            n = joined(line, n, byte);
-        }
-    }
-    n
-}
-
-// The line with a byte more. A line that is too long is held as one byte more than there is room for.
-fn joined(line: &mut [u8; MOST_LINE], held: usize, byte: u8) -> usize {
-    if held < MOST_LINE {
-        line[held] = byte;
-        return held + 1;
-    }
-    MOST_LINE + 1
-}
-
-// The line of the bytes that are held.
-fn run(line: &[u8], held: usize) {
-    if line.len() < held {
-        print::text(b"not understood: a line that is too long\n");
-        return;
-    }
-    run_line(&line[..held]);
-}
-
-// Comments and empty lines are passed over, and titles printed as they stand.
+// Where too many tokens were read, there may be fewer now than before the colon.
 fn run_line(line: &[u8]) {
-    if line.len() == 0 {
-        return;
-    }
-    match line[0] {
-        b'#' => {}
-        b'=' => print::line(line),
-        _ => run_case(line),
-    }
+    let mut numbers = [0usize; TOKENS];
+    let mut bytes = [0u8; TOKENS];
+    let read = tokens::read(line, &mut numbers, &mut bytes);
+    let count = read.count;
+    let end = read.end % (count + 1);
+    called(line, &numbers, end, &bytes[end..count]);
 }
 
-// Runs a call, if the line is understood.
-fn run_case(line: &[u8]) {
-    let mut numbers = [0usize; tokens::MOST_NUMBERS];
-    let mut bytes = [0u8; tokens::MOST_BYTES];
-    let word = tokens::word(line);
-    let given = tokens::numbers(line, word.next, &mut numbers);
-    let table = tokens::bytes(line, tokens::table(line, given.next), &mut bytes);
-    let n = given.count;
-    let m = table.count;
-    if tokens::past(line, table.next, b' ') == line.len() {
-        if called(word.value, &numbers[..n], &bytes[..m]) {
-            return;
+// The names of the calls as tokens, by their last five letters; and what begins a title and a comment.
+const PLAN: usize = 0x70_6c61_6e00_0000;
+
+const READ: usize = 0x72_6561_6400_0000;
+
+const REGION: usize = 0x6567_696f_6e00_0000;
+
+const CORNERS: usize = 0x726e_6572_7300_0000;
+
+const SEARCH: usize = 0x6561_7263_6800_0000;
+
+const CHAIN: usize = 0x6368_6169_6e00_0000;
+
+const TITLE: usize = 0x3d00_0000;
+
+const COMMENT: usize = 0x2300_0000;
+
+// Runs a call: the first token is its name, those up to the colon are its numbers, and behind it are the bytes of a table. A title is printed as it
+// stands.
+fn called(line: &[u8], numbers: &[usize; TOKENS], end: usize, bytes: &[u8]) {
+    match tokens::at(numbers, 0) {
+        PLAN => plans::plan(tokens::at(numbers, 1), tokens::at(numbers, 2), bytes),
+        REGION => scripts::region(numbers),
+        CORNERS => corners::corners(tokens::at(numbers, 1)),
+        READ | SEARCH | CHAIN => of_table(numbers, end, bytes),
+        0 | COMMENT => {}
+        TITLE => print::line(line),
+        _ => {
+            print::text(b"not understood: ");
+            print::line(line);
         }
-    }
-    print::text(b"not understood: ");
-    print::line(line);
-}
-
-// The names of the calls, by their letters.
-const PLAN: usize = 0x706c_616e;
-
-const READ: usize = 0x7265_6164;
-
-const REGION: usize = 0x7265_6769_6f6e;
-
-const CORNERS: usize = 0x63_6f72_6e65_7273;
-
-const SEARCH: usize = 0x7365_6172_6368;
-
-const CHAIN: usize = 0x63_6861_696e;
-
-// Whether there is a call of that name that takes these numbers and bytes. Bytes with no colon before them would be numbers.
-fn called(word: usize, numbers: &[usize], bytes: &[u8]) -> bool {
-    match word {
-        PLAN => plans::plan(numbers, bytes),
-        REGION => scripts::region(numbers, bytes),
-        CORNERS => corners::corners(numbers, bytes),
-        READ => {
-            if numbers.len() != 0 {
-                return false;
-            }
-            of_table(word, numbers, bytes)
-        }
-        SEARCH | CHAIN => {
-            if bytes.len() == 0 {
-                return false;
-            }
-            of_table(word, numbers, bytes)
-        }
-        _ => false,
     }
 }
 
 // The calls that take a table, if the reader accepts its bytes.
-fn of_table(word: usize, numbers: &[usize], bytes: &[u8]) -> bool {
+fn of_table(numbers: &[usize; TOKENS], end: usize, bytes: &[u8]) {
     let mut table = [0u8; TABLE];
     let verdict = reader::read(bytes, &mut table);
     match verdict {
-        Verdict::Refused(n) => {
-            print::refused(n);
-            true
-        }
-        Verdict::Accepted => of_opened(word, numbers, opened::opened(&table)),
+        Verdict::Refused(n) => print::refused(n),
+        Verdict::Accepted => of_accepted(numbers, end, &table),
     }
 }
 
-fn of_opened(word: usize, numbers: &[usize], table: Table) -> bool
-    requires { ⌜ IsTable table ⌝ }
+fn of_accepted(numbers: &[usize; TOKENS], end: usize, table: &[u8; TABLE])
+    requires { ⌜ IsTable (now table) ⌝ }
 {
-    match word {
+    match tokens::at(numbers, 0) {
         READ => readings::read(table),
-        SEARCH => searches::search(table, numbers),
-        CHAIN => chains::chain(table, numbers),
-        _ => false,
+        SEARCH => searches::search(table, tokens::at(numbers, 1)),
+        _ => chains::chain(table, numbers, end),
     }
 }

@@ -1,29 +1,28 @@
 // `read: TABLE`: the counts, the goal and E of the table that the reader takes the bytes for.
-ghost use Rattle.reader.specs.Opened.{IsTable};
+ghost use Rattle.reader.specs.Held.{IsTable};
 use crate::print;
-use reader::opened::Table;
+use reader::table;
+use reader::table::TABLE;
+use regions::nodes;
 use regions::nodes::Nodes;
 
-pub fn read(table: Table) -> bool
-    requires { ⌜ IsTable table ⌝ }
+pub fn read(table: &[u8; TABLE])
+    requires { ⌜ IsTable (now table) ⌝ }
 {
-    print::field(b"modes ", table.modes);
-    print::field(b" timers ", table.timers);
-    print::field(b" moves ", table.moves);
-    print::field(b" goal ", table.goal);
-    count(regions::nodes::node_count(table));
-    true
+    let counts = [
+        table::modes(table),
+        table::timers(table),
+        table::moves(table),
+        table::goal(table),
+    ];
+    print::filled(b"modes A timers B moves C goal D", counts);
+    count(nodes::node_count(table));
 }
 
 // E, or that it is above 65,536.
 fn count(nodes: Nodes) {
     match nodes {
-        Nodes::Count(n) => {
-            print::field(b" nodes ", n);
-            print::end_line();
-        }
-        Nodes::TooMany => {
-            print::line(b" too many nodes");
-        }
+        Nodes::Count(n) => print::with(b" nodes A\n", n),
+        Nodes::TooMany => print::text(b" too many nodes\n"),
     }
 }

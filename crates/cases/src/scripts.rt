@@ -1,106 +1,51 @@
 // `region TIMERS STEP STEP ..`: operations on a region, from the start region on, and tests of it. A step is a letter and a number.
-ghost use Prim.Native.Nat.{_≤_, _<_};
-ghost use lib.ListN.{length};
+ghost use Prim.Native.Nat.{_≤_};
 ghost use Rattle.regions.specs.Held.{mostTimers, view, Valid, PriceRoom};
-ghost use Rattle.cases.specs.Step.{Follows};
+ghost use Rattle.cases.specs.Kept.{mostAmount, Kept};
+use crate::operations;
 use crate::print;
 use crate::tokens;
+use crate::tokens::TOKENS;
 use regions::Region;
 
-// A delay is made only from a region within this ceiling.
-const MOST_WHOLE: u8 = 15;
-
-pub fn region(numbers: &[usize], bytes: &[u8]) -> bool {
-    if bytes.len() != 0 {
-        return false;
-    }
-    if numbers.len() == 0 {
-        return false;
-    }
-    if tokens::MOST_NUMBERS < numbers.len() {
-        return false;
-    }
-    let timers = numbers[0];
-    if timers < 1 {
-        return false;
-    }
-    if Region::MOST_TIMERS < timers {
-        return false;
-    }
-    run(numbers, timers)
-}
-
 // Prints the start region, then each step with what comes of it.
-fn run(steps: &[usize], timers: usize) -> bool
-    requires { ⌜ (1 ≤ timers) × (timers ≤ mostTimers) × (length (now steps) ≤ 256) ⌝ }
-{
-    let mut region = Region::start(timers);
+pub fn region(numbers: &[usize; TOKENS]) {
+    let mut region = Region::start(timers(tokens::at(numbers, 1)));
     print::text(b"start");
     parts(region);
-    for i in 1..steps.len() {
-        let amount = steps[i] % tokens::LETTER;
-        if 255 < amount {
-            return false;
+    for i in 2..TOKENS {
+        let step = tokens::at(numbers, i);
+        if step == 0 {
+            return;
         }
-        let operation = letter(steps[i]);
-        region = stepped(region, operation, amount as u8);
-        show(region, operation, amount as u8);
+        region = stepped(region, step);
     }
-    true
 }
 
-// The letter of a step.
-fn letter(step: usize) -> u8 {
-    let code = step / tokens::LETTER;
-    if 255 < code {
-        return 0;
-    }
-    code as u8
-}
-
-// The region after an operation. A test changes nothing.
-fn stepped(region: Region, operation: u8, amount: u8) -> Region
-    requires { ⌜ Valid region × PriceRoom amount (view region) ⌝ }
-    ensures { λ r. ⌜ Follows amount region r ⌝ }
+// A number of timers, 1 to 3. One more than that counts from 1 again.
+pub fn timers(number: usize) -> usize
+    ensures { λ r. ⌜ (1 ≤ r) × (r ≤ mostTimers) ⌝ }
 {
-    match operation {
-        b'd' => delayed(region, amount as u32),
-        b'l' => region.linger(amount as u32),
-        b'r' => region.reset(amount as usize % Region::MOST_TIMERS),
-        b'a' => region.reset_all(amount),
-        b'c' => region.charge(amount as u32),
-        _ => region,
-    }
+    (number % 3 + 2) % 3 + 1
 }
 
-// A delay, if there is room for the whole parts.
-fn delayed(region: Region, rate: u32) -> Region
-    requires { ⌜ Valid region × PriceRoom rate (view region) ⌝ }
-    ensures { λ r. ⌜ Follows rate region r ⌝ }
+// The region after a step, which is printed with what came of it. A test changes nothing.
+fn stepped(region: Region, step: usize) -> Region
+    requires { ⌜ Valid region × PriceRoom mostAmount (view region) ⌝ }
+    ensures { λ r. ⌜ Kept region r ⌝ }
 {
-    if region.within([MOST_WHOLE; Region::MOST_TIMERS]) {
-        region.delay(rate)
-    } else {
-        region
-    }
-}
-
-// The line of a step: what the operation led to, or what the test says.
-fn show(region: Region, operation: u8, amount: u8)
-    requires { ⌜ Valid region ⌝ }
-{
-    print::letter(operation);
-    match operation {
-        b'd' | b'l' | b'r' | b'a' | b'c' => {
+    let letter = (step / tokens::LETTER % 256) as u8;
+    let amount = (step % 65536) as u16;
+    let after = operations::operated(region, letter, amount);
+    print::letter(letter);
+    match letter {
+        b'w'..=b'z' => tested(after, letter, (amount % 256) as u8),
+        _ => {
             print::number(amount as usize);
-            parts(region);
+            parts(after);
         }
-        b'x' => condition(region, 0, amount),
-        b'y' => condition(region, 1, amount),
-        b'z' => condition(region, 2, amount),
-        b'w' => ceilings(region, amount),
-        _ => print::line(b": not understood"),
     }
+    after
 }
 
 // The whole parts, the groups and the prices, and the end of their line.
@@ -112,44 +57,38 @@ pub fn parts(region: Region) {
     list(b": whole", widened(whole), n);
     list(b" groups", widened(group), n);
     list(b" prices", prices, region.top as usize + 1);
-    print::end_line();
+    print::letter(b'\n');
 }
 
 fn widened(entries: [u8; Region::MOST_TIMERS]) -> [u32; Region::MOST_CORNERS] {
     [entries[0] as u32, entries[1] as u32, entries[2] as u32, 0]
 }
 
-// The first n entries.
+// The first n entries, of four.
 fn list(name: &[u8], entries: [u32; Region::MOST_CORNERS], n: usize) {
     print::text(name);
-    for i in 0..Region::MOST_CORNERS {
-        if n <= i {
-            return;
-        }
-        print::entry(entries[i]);
+    for i in 0..n % 5 {
+        print::entry(entries[i] as usize);
     }
 }
 
-// Whether the region meets a condition.
-fn condition(region: Region, timer: usize, byte: u8)
-    requires { ⌜ Valid region × (timer < mostTimers) ⌝ }
-{
-    print::hex(byte);
-    verdict(region.meets(timer, byte));
-}
-
-// Whether the region is within one ceiling for every timer.
-fn ceilings(region: Region, ceiling: u8)
+// Whether the region is within one ceiling for every timer, behind w; or meets a condition on timer 0, 1 or 2, behind x, y or z.
+fn tested(region: Region, letter: u8, byte: u8)
     requires { ⌜ Valid region ⌝ }
 {
-    print::number(ceiling as usize);
-    verdict(region.within([ceiling; Region::MOST_TIMERS]));
+    if letter == b'w' {
+        print::number(byte as usize);
+        verdict(region.within([byte; Region::MOST_TIMERS]));
+    } else {
+        print::hex(byte);
+        verdict(region.meets((letter % 3) as usize, byte));
+    }
 }
 
 fn verdict(met: bool) {
     if met {
-        print::line(b": met");
+        print::text(b": met\n");
     } else {
-        print::line(b": not met");
+        print::text(b": not met\n");
     }
 }

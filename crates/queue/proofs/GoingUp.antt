@@ -20,10 +20,11 @@ pub record Rising (nodes node : ℕ) (ws ws′ : List ℕ) (x : ℕ) : Type 0 wh
   pub raising :
       (upto : ℕ) → Raising nodes (players upto (lows nodes ws)) (slotAt ws) node ((nodes + node) / 2)
       → Raising nodes (players upto (lows nodes ws)) (slotAt ws′) node x
+  pub outside : slotAt ws′ 0 ≡ slotAt ws 0
 
 module _ (nodes node : ℕ) (ws : List ℕ) (there : node < nodes) where
   pub rising-start : QueueRoom nodes ws → Rising nodes node ws ws ((nodes + node) / 2)
-  rising-start s = record { costs = refl; words = s; inside = omega arith; raising = λ upto r. r }
+  rising-start s = record { costs = refl; words = s; inside = omega arith; raising = λ upto r. r; outside = refl }
 
   -- The match at x, between the node and what its slot holds.
   module _
@@ -48,6 +49,7 @@ module _ (nodes node : ℕ) (ws : List ℕ) (there : node < nodes) where
                 (subst (λ (a : ℕ). Before (λ v. key (lows nodes ws) v) a (slotAt ws′ x)) e (played .right))
                 (put-puts nodes ws′ (up .words) x node (up .inside))
                 (up .raising upto s);
+            outside = put-puts nodes ws′ (up .words) x node (up .inside) .others 0 (omega arith) ∙ up .outside;
           }
 
       pub rising-stop : r ≢ node → GoneUp nodes node ws ws′
@@ -60,6 +62,7 @@ module _ (nodes node : ℕ) (ws : List ℕ) (there : node < nodes) where
                 raise-stop nodes (players upto (lows nodes ws)) node (slotAt ws′) x one (up .inside) loses
                 (lost loses (up .words .slots x one (up .inside)))
                 (up .raising upto s);
+            outside = up .outside;
           }
         where
           other : r ≡ slotAt ws′ x
@@ -89,4 +92,5 @@ module _ (nodes node : ℕ) (ws : List ℕ) (there : node < nodes) where
             λ upto s.
             raise-end nodes (players upto (lows nodes ws)) node (slotAt ws′)
             (subst (λ (y : ℕ). Raising nodes (players upto (lows nodes ws)) (slotAt ws′) node y) e (up .raising upto s));
+        outside = up .outside;
       }

@@ -4,4 +4,4 @@ pub mod Winning
 pub mod GoingUp
 pub mod Replays
 pub mod Storing
-pub mod Offering
+pub mod Relaxing

@@ -21,6 +21,7 @@ pub record Replayed (nodes settled : ℕ) (ws ws′ : List ℕ) (x best : ℕ) :
   pub high : x < 2 * nodes
   pub seated : Seated nodes best
   pub replaying : Replaying nodes (players (suc settled) (lows nodes ws)) (slotAt ws′) x best
+  pub outside : slotAt ws′ 0 ≡ slotAt ws 0
 
 pub replayed-start :
     (nodes node settled : ℕ) (ws : List ℕ) → SettleReady nodes node ws → settled ≡ key (lows nodes ws) node
@@ -37,6 +38,7 @@ replayed-start nodes node settled ws s e =
           (replay-start nodes (players (s .upto) (lows nodes ws)) (players (suc (key (lows nodes ws) node)) (lows nodes ws)) (slotAt ws) node
           (s .queue .fair)
           (settle-without nodes (s .upto) ws (s .queue) node (s .there) (s .first)));
+      outside = refl;
     }
 
 module _ (nodes settled : ℕ) (ws ws′ : List ℕ) where
@@ -79,6 +81,7 @@ module _ (nodes settled : ℕ) (ws ws′ : List ℕ) where
             replaying =
                 replay-up nodes (players (suc settled) (lows nodes ws)) (slotAt ws′) (slotAt (put ws′ (x / 2) a)) x (beside x) best a
                 (omega arith) inside (omega arith) played (put-puts nodes ws′ (r .words) (x / 2) a inside) (r .replaying);
+            outside = put-puts nodes ws′ (r .words) (x / 2) a inside .others 0 (omega arith) ∙ r .outside;
           }
 
   pub replayed-end :
@@ -93,4 +96,5 @@ module _ (nodes settled : ℕ) (ws ws′ : List ℕ) where
                   rw (r .costs) (subst (λ (k : ℕ). AllFair nodes (players (suc k) (lows nodes ws)) (slotAt ws′)) e
                   (replay-end nodes (players (suc settled) (lows nodes ws)) (slotAt ws′) x best h (r .replaying)));
             };
+        outside = r .outside;
       }

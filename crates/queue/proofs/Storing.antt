@@ -29,16 +29,16 @@ module _ (nodes v charge steps : ℕ) (ws : List ℕ) (low : LowerReady nodes v 
   us = putCost ws v charge steps
 
   room : 2 * v + 1 < length ws
-  room = omega (arith, low .offer .words .room, low .offer .there)
+  room = omega (arith, low .relax .queue .words .room, low .relax .there)
 
   cost-lows : lows nodes us ≡ stored ts v (cost charge steps)
   cost-lows =
-      lows-set-steps nodes (set ws (2 * v) charge) v (slotAt ws v * 65536 + steps) (low .offer .there)
+      lows-set-steps nodes (set ws (2 * v) charge) v (slotAt ws v * 65536 + steps) (low .relax .there)
       ∙ ap (λ (y : ℕ). set (lows nodes (set ws (2 * v) charge)) (2 * v + 1) y) steps-only
-      ∙ ap (λ (l : List ℕ). set l (2 * v + 1) steps) (lows-set-charge nodes ws v charge (low .offer .there))
+      ∙ ap (λ (l : List ℕ). set l (2 * v + 1) steps) (lows-set-charge nodes ws v charge (low .relax .there))
     where
       steps-only : (slotAt ws v * 65536 + steps) % 65536 ≡ steps
-      steps-only = omega (arith, low .offer .fits)
+      steps-only = omega (arith, low .relax .fits)
 
   cost-slot : (z : ℕ) → slotAt us z ≡ slotAt ws z
   cost-slot z = at (ℕ-discrete z v)
@@ -49,7 +49,7 @@ module _ (nodes v charge steps : ℕ) (ws : List ℕ) (low : LowerReady nodes v 
           (ap (λ (y : ℕ). y / 65536)
           (getD-set-same (set ws (2 * v) charge) (2 * v + 1) (slotAt ws v * 65536 + steps) 0
           (omega (arith, room, length-set ws (2 * v) charge)))
-          ∙ omega (arith, low .offer .fits))
+          ∙ omega (arith, low .relax .fits))
       at (no n) =
           ap (λ (y : ℕ). y / 65536)
           (getD-set-other (set ws (2 * v) charge) (2 * v + 1) (2 * z + 1) (slotAt ws v * 65536 + steps) 0 (omega arith)
@@ -60,7 +60,7 @@ module _ (nodes v charge steps : ℕ) (ws : List ℕ) (low : LowerReady nodes v 
 
   pub cost-words : QueueRoom nodes us
   cost-words =
-      let s = low .offer .words in
+      let s = low .relax .queue .words in
       record {
         two = s .two;
         few = s .few;
@@ -82,10 +82,11 @@ module _ (nodes v charge steps : ℕ) (ws : List ℕ) (low : LowerReady nodes v 
                   rw (up .costs)
                   (up .fair upto
                   (rw cost-lows
-                  (raise-start nodes (players upto ts) (players upto (stored ts v (cost charge steps))) (slotAt us) v (low .offer .there)
-                  (omega (arith, low .offer .words .few, low .offer .there))
+                  (raise-start nodes (players upto ts) (players upto (stored ts v (cost charge steps))) (slotAt us) v (low .relax .there)
+                  (omega (arith, low .relax .queue .words .few, low .relax .there))
                   (own-leaves upto ts)
                   (subst (λ (s : ℕ → ℕ). AllFair nodes (players upto ts) s) cost-slots (q .fair))
-                  (lower-raised ts v charge steps (omega (arith, room, lows-length nodes ws)) upto (low .offer .known) (low .offer .fits) (low .less) still))));
+                  (lower-raised ts v charge steps (omega (arith, room, lows-length nodes ws)) upto (low .relax .known) (low .relax .fits) (low .less) still))));
             };
+        outside = up .outside ∙ cost-slot 0;
       }

@@ -5,4 +5,4 @@ pub mod Pendings
 pub mod First
 pub mod Changes
 pub mod Once
-pub mod Offers
+pub mod Determined

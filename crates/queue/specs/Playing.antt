@@ -35,3 +35,5 @@ pub record GoneUp (nodes node : ℕ) (ws ws′ : List ℕ) : Type 0 where
   pub fair :
       (upto : ℕ) → Raising nodes (players upto (lows nodes ws)) (slotAt ws) node ((nodes + node) / 2)
       → AllFair nodes (players upto (lows nodes ws)) (slotAt ws′)
+  -- Slot 0 is in no match: it stays.
+  pub outside : slotAt ws′ 0 ≡ slotAt ws 0

@@ -63,25 +63,29 @@ pub record Queue (nodes upto : ℕ) (ws : List ℕ) : Type 0 where
 abbrev pub costIn : ℕ → List ℕ → ℕ → Cost
 costIn nodes ws v = cost (chargeAt (lows nodes ws) v) (stepsAt (lows nodes ws) v)
 
--- What `offer` asks: a cost for a node.
-pub record OfferReady (nodes node charge steps : ℕ) (ws : List ℕ) : Type 0 where
-  pub words : QueueRoom nodes ws
+-- What `relax` asks: a queue, and a cost for a node whose new key is not settled.
+pub record RelaxReady (nodes node charge steps : ℕ) (ws : List ℕ) : Type 0 where
+  pub upto : ℕ
+  pub queue : Queue nodes upto ws
+  pub later : upto ≤ keyOf charge steps node
   pub there : node < nodes
   pub fits : steps < 65536
   pub known : charge ≢ infinity
 
 -- What `lower` asks: one that is less than the node's.
 pub record LowerReady (nodes node charge steps : ℕ) (ws : List ℕ) : Type 0 where
-  pub offer : OfferReady nodes node charge steps ws
+  pub relax : RelaxReady nodes node charge steps ws
   pub less : cost charge steps ≺ costIn nodes ws node
 
 -- What it does: the cost is stored; and a queue up to any key is one again, unless the new key is settled already.
 pub record LowerDone (nodes node charge steps : ℕ) (ws ws′ : List ℕ) : Type 0 where
   pub costs : lows nodes ws′ ≡ stored (lows nodes ws) node (cost charge steps)
   pub queue : (upto : ℕ) → Queue nodes upto ws → upto ≤ keyOf charge steps node → Queue nodes upto ws′
+  -- Slot 0 is in no match: it stays.
+  pub outside : slotAt ws′ 0 ≡ slotAt ws 0
 
--- What `offer` does: the same if the cost is less than the node's, and nothing if it is not.
-pub record OfferDone (nodes node charge steps : ℕ) (ws ws′ : List ℕ) : Type 0 where
+-- What `relax` does: the same if the cost is less than the node's, and nothing if it is not.
+pub record RelaxDone (nodes node charge steps : ℕ) (ws ws′ : List ℕ) : Type 0 where
   pub taken : cost charge steps ≺ costIn nodes ws node → LowerDone nodes node charge steps ws ws′
   pub passed : costIn nodes ws node ≼ cost charge steps → ws′ ≡ ws
 
@@ -96,3 +100,5 @@ pub record SettleReady (nodes node : ℕ) (ws : List ℕ) : Type 0 where
 pub record SettleDone (nodes node : ℕ) (ws ws′ : List ℕ) : Type 0 where
   pub costs : lows nodes ws′ ≡ lows nodes ws
   pub queue : Queue nodes (suc (key (lows nodes ws) node)) ws′
+  -- Slot 0 is in no match: it stays.
+  pub outside : slotAt ws′ 0 ≡ slotAt ws 0

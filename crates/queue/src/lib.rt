@@ -5,7 +5,7 @@ ghost use Prim.Native.Nat.{suc, _+_, _*_, _%_, _≤_, _<_};
 ghost use lib.ListN.{length};
 ghost use Rattle.semantics.specs.Graph.Path.{chargeAt, stepsAt};
 ghost use Rattle.queue.specs.Tournament.{none, Match, winner};
-ghost use Rattle.queue.specs.Queue.{lows, slotAt, players, QueueRoom, OfferReady, OfferDone, LowerReady, LowerDone, SettleReady, SettleDone};
+ghost use Rattle.queue.specs.Queue.{lows, slotAt, players, QueueRoom, RelaxReady, RelaxDone, LowerReady, LowerDone, SettleReady, SettleDone};
 ghost use Rattle.queue.specs.Playing.{keyIn, Seat, put, Place, GoneUp};
 
 // Nobody: what a slot holds if no node below it is pending.
@@ -127,9 +127,9 @@ pub fn lower(words: &mut [u32], nodes: usize, node: usize, charge: u32, steps: u
 }
 
 // A node is offered a cost, and gets it if it is less than its own.
-pub fn offer(words: &mut [u32], nodes: usize, node: usize, charge: u32, steps: u32)
-    requires { ⌜ OfferReady nodes node charge steps (now words) ⌝ }
-    ensures { λ _. ⌜ OfferDone nodes node charge steps (now (words .entry)) (now (words .exit)) ⌝ }
+pub fn relax(words: &mut [u32], nodes: usize, node: usize, charge: u32, steps: u32)
+    requires { ⌜ RelaxReady nodes node charge steps (now words) ⌝ }
+    ensures { λ _. ⌜ RelaxDone nodes node charge steps (now (words .entry)) (now (words .exit)) ⌝ }
 {
     let own = charge_of(words, node);
     if own < charge {

@@ -3,5 +3,4 @@ pub mod Collecting
 pub mod Writing
 pub mod Copying
 pub mod Whole
-pub mod Opening
 pub mod Zero

@@ -3,15 +3,12 @@
 use Prim.Native.Nat.{ℕ}
 use mathlib.Core.List.{List}
 
--- "modes m, 1 to 16", "timers n, 1 to 3", "moves e, 0 to 64", "n ceilings, 1 to 15".
+-- "modes m, 1 to 16", "timers n, 1 to 3", "n ceilings, 1 to 15".
 abbrev pub mostModes : ℕ
 mostModes = 16
 
 abbrev pub mostTimers : ℕ
 mostTimers = 3
-
-abbrev pub mostMoves : ℕ
-mostMoves = 64
 
 abbrev pub mostCeiling : ℕ
 mostCeiling = 15

@@ -6,6 +6,5 @@ pub mod Layout
 pub mod Meaning
 pub mod Read
 pub mod Held
-pub mod Opened
 pub mod Step
 pub mod Theorems

@@ -11,5 +11,4 @@ pub mod Longer
 pub mod Proper
 pub mod Holding
 pub mod Access
-pub mod Opened
 pub mod Starred

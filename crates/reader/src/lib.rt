@@ -7,7 +7,6 @@ ghost use Rattle.reader.specs.Step.{Judges};
 use crate::table::TABLE;
 
 mod fields;
-pub mod opened;
 mod records;
 mod start;
 pub mod table;

@@ -3,7 +3,9 @@ ghost use mathlib.Core.Path.{_≡_};
 ghost use Prim.Native.Nat.{_+_, _*_, _<_};
 ghost use lib.ListN.{length, getD};
 ghost use Rattle.semantics.specs.Automaton.{timers, modeAt, moveAt};
-ghost use Rattle.reader.specs.Held.{fieldsOf, automatonOf, modeFieldsAt, moveFieldsAt, IsTable};
+ghost use Rattle.reader.specs.Fields.{mostTimers};
+ghost use Rattle.reader.specs.Held.{pad, fieldsOf, automatonOf, modeFieldsAt, moveFieldsAt, IsTable};
+use crate::MOST_TIMERS;
 
 // The bytes of a table.
 pub const TABLE: usize = 904;
@@ -75,12 +77,12 @@ pub fn goal(table: &[u8; TABLE]) -> usize
     table[GOAL] as usize
 }
 
-// The ceiling of a timer.
-pub fn ceiling(table: &[u8; TABLE], timer: usize) -> u8
-    requires { ⌜ IsTable (now table) × (timer < timers (automatonOf (now table))) ⌝ }
-    ensures { λ r. ⌜ r ≡ getD (automatonOf (now (table .entry)) .ceilings) timer 0 ⌝ }
+// All ceilings, 0 behind the last one.
+pub fn ceilings(table: &[u8; TABLE]) -> [u8; MOST_TIMERS]
+    requires { ⌜ IsTable (now table) ⌝ }
+    ensures { λ r. ⌜ r ≡ pad mostTimers (automatonOf (now (table .entry)) .ceilings) ⌝ }
 {
-    table[CEILINGS + timer]
+    [table[CEILINGS], table[CEILINGS + 1], table[CEILINGS + 2]]
 }
 
 // What a minute in a mode is charged.

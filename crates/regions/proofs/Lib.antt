@@ -8,4 +8,4 @@ pub mod Codes
 pub mod Ceilings
 pub mod Rules
 pub mod Cells
-pub mod Around
+pub mod NodeRegion

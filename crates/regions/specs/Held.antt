@@ -47,6 +47,10 @@ PriceRoom amount r = (i : ℕ) → getD (r .prices) i 0 + amount < 2 ^ 32
 abbrev pub WholeRoom : PricedRegion → Type 0
 WholeRoom r = (i : ℕ) → getD (r .whole) i 0 < 255
 
+-- Every place in half minutes is below 255.
+abbrev pub HalfRoom : PricedRegion → Type 0
+HalfRoom r = (i : ℕ) → getD (r .whole) i 0 < 127
+
 -- The struct that holds a corner.
 unfoldable pub packCorner : Corner → CornerAt
 packCorner c = record { group = pad mostTimers (c .group); index = c .index; top = highest (c .group) }

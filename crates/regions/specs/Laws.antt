@@ -5,4 +5,4 @@ pub mod Chain
 pub mod Room
 pub mod Corners
 pub mod Nodes
-pub mod Around
+pub mod NodeRegion

@@ -14,7 +14,7 @@ pub use Rattle.reader.specs.Fields.{mostModes, mostCeiling}
 use Rattle.regions.specs.declared.nodes.Nodes.{Nodes}
 use Rattle.regions.specs.declared.nodes.Nodes.the-variants.{Count, TooMany}
 use Rattle.regions.specs.declared.nodes.NodeAt.{NodeAt}
-use Rattle.regions.specs.declared.nodes.Around.{Around}
+use Rattle.regions.specs.declared.nodes.NodeRegion.{NodeRegion}
 use Rattle.regions.specs.Held.{mostTimers, pad, pack, highest, packCorner}
 
 -- No ceiling of the array is above the greatest.
@@ -50,14 +50,14 @@ unfoldable pub packNode : Node → NodeAt
 packNode x = record { mode = x .mode; whole = pad mostTimers (x .whole); corner = packCorner (x .corner) }
 
 -- The region of which a node is a corner, with its corners' indices as prices.
-abbrev pub regionAround : Node → PricedRegion
-regionAround x = record { whole = x .whole; group = x .corner .group; prices = countFrom 0 (suc (highest (x .corner .group))) }
+abbrev pub nodeRegion : Node → PricedRegion
+nodeRegion x = record { whole = x .whole; group = x .corner .group; prices = countFrom 0 (suc (highest (x .corner .group))) }
 
 -- The struct that holds it, for the ceilings by which nodes have their numbers.
-unfoldable pub packAround : List ℕ → Node → Around
-packAround ceilings x = record {
+unfoldable pub packNodeRegion : List ℕ → Node → NodeRegion
+packNodeRegion ceilings x = record {
   mode = x .mode;
-  region = pack (regionAround x);
-  first = nodeNumber ceilings (nodeOf (x .mode) (regionAround x) 0);
+  region = pack (nodeRegion x);
+  first = nodeNumber ceilings (nodeOf (x .mode) (nodeRegion x) 0);
   index = x .corner .index;
 }

@@ -1,5 +1,6 @@
 // How the values of a timer compare with a whole number v: all values with whole part w and a fraction of group g at once.
 ghost use mathlib.Core.Path.{_≡_};
+ghost use Prim.Native.Nat.{_+_, _<_};
 ghost use lib.Dec.{leb, ltb};
 ghost use Rattle.semantics.specs.Region.{high, meetsAt};
 ghost use Rattle.reader.specs.Meaning.{comparisonOf};
@@ -27,4 +28,12 @@ fn above(v: u8, w: u8, g: u8) -> bool
     ensures { λ r. ⌜ r ≡ ltb v (high w g) ⌝ }
 {
     if g == 0 { v < w } else { v <= w }
+}
+
+// Where they stand in half minutes.
+pub fn half(w: u8, g: u8) -> u8
+    requires { ⌜ w < 127 ⌝ }
+    ensures { λ r. ⌜ r ≡ w + high w g ⌝ }
+{
+    if g == 0 { w + w } else { w + w + 1 }
 }

@@ -1,13 +1,15 @@
 // Layer 2: priced regions of one to three timers, by value, and the corners of a cell by their numbers.
 ghost use mathlib.Core.Path.{_≡_};
 ghost use mathlib.Core.Bool.{true, false};
+ghost use mathlib.Core.List.{_∷_, []};
 ghost use Prim.Native.Nat.{_<_, _≤_};
 ghost use lib.ListN.{take};
 ghost use Rattle.semantics.specs.Region.{top, noZero, alone, start, leave, arrive, delay, linger, reset, resetAll, charge, meets, within};
+ghost use Rattle.semantics.specs.Regions.Windows.{half};
 ghost use Rattle.semantics.specs.NodeCount.{cornerCount};
 ghost use Rattle.semantics.specs.Corners.Corner.{cornerOf, cornerNumber};
 ghost use Rattle.reader.specs.Meaning.{namedTimers, conditionOf};
-ghost use Rattle.regions.specs.Held.{mostTimers, mostCorners, pad, pack, view, Valid, PriceRoom, WholeRoom};
+ghost use Rattle.regions.specs.Held.{mostTimers, mostCorners, pad, pack, view, Valid, PriceRoom, WholeRoom, HalfRoom};
 
 mod arrays;
 mod compare;
@@ -147,6 +149,19 @@ impl Region {
         ensures { λ r. ⌜ r ≡ pad mostCorners (view self .prices) ⌝ }
     {
         self.prices
+    }
+
+    // Where each timer stands in half minutes: at an even place on a whole minute, at an odd one between two. A timer that is not there is at 0.
+    pub fn halves(self) -> [u8; Region::MOST_TIMERS]
+        requires { ⌜ Valid self × HalfRoom (view self) ⌝ }
+        ensures { λ r. ⌜ r ≡ half (view self) 0 ∷ half (view self) 1 ∷ half (view self) 2 ∷ [] ⌝ }
+    {
+        let whole = self.whole;
+        let group = self.group;
+        let a = compare::half(whole[0], group[0]);
+        let b = compare::half(whole[1], group[1]);
+        let c = compare::half(whole[2], group[2]);
+        [a, b, c]
     }
 
     // "The corners of a cell number 3, 13 or 75 for one, two or three timers."

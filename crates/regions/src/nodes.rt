@@ -6,14 +6,14 @@ ghost use lib.Dec.{leb};
 ghost use lib.ListN.{take};
 ghost use Rattle.semantics.specs.NodeCount.{cellCount, nodeCount};
 ghost use Rattle.semantics.specs.Nodes.Node.{cellNumber, cellAt, nodeOf, nodeNumber, nodeAt};
-ghost use Rattle.reader.specs.Meaning.{automaton};
-ghost use Rattle.reader.specs.Opened.{IsTable, fields};
+ghost use Rattle.reader.specs.Held.{automatonOf, IsTable};
 ghost use Rattle.regions.specs.Held.{mostTimers, view, Valid};
-ghost use Rattle.regions.specs.Nodes.{mostModes, mostCeiling, mostCells, mostCellNumber, mostNodes, CeilingsFew, IsFactor, Padded, bounded, packNode, packAround};
+ghost use Rattle.regions.specs.Nodes.{mostModes, mostCeiling, mostCells, mostCellNumber, mostNodes, CeilingsFew, IsFactor, Padded, bounded, packNode, packNodeRegion};
 use crate::Region;
 use crate::tables;
 use crate::tables::CornerAt;
-use reader::opened::Table;
+use reader::table;
+use reader::table::TABLE;
 
 // "E may be at most 65,536."
 pub const MOST_NODES: usize = 65536;
@@ -26,7 +26,7 @@ pub enum Nodes {
 
 // A node with the region of which it is a corner: its mode, the region with its corners' indices as prices, the number of the node that is the
 // region's corner 0, and the node's own index. The nodes of a region's corners have numbers in a row.
-pub struct Around {
+pub struct NodeRegion {
     pub mode: usize,
     pub region: Region,
     pub first: usize,
@@ -146,9 +146,9 @@ fn index_to(top: u8, i: u32) -> u32
 }
 
 // The region of which the node with a number is a corner.
-pub fn region_at(timers: usize, ceilings: [u8; Region::MOST_TIMERS], number: usize) -> Around
+pub fn region_at(timers: usize, ceilings: [u8; Region::MOST_TIMERS], number: usize) -> NodeRegion
     requires { ⌜ (1 ≤ timers) × (timers ≤ mostTimers) × CeilingsFew ceilings × Padded timers ceilings × (number < mostNodes) ⌝ }
-    ensures { λ r. ⌜ r ≡ packAround (take timers ceilings) (nodeAt (take timers ceilings) number) ⌝ }
+    ensures { λ r. ⌜ r ≡ packNodeRegion (take timers ceilings) (nodeAt (take timers ceilings) number) ⌝ }
 {
     let node = node_at(timers, ceilings, number as u32);
     let corner = node.corner;
@@ -162,7 +162,7 @@ pub fn region_at(timers: usize, ceilings: [u8; Region::MOST_TIMERS], number: usi
         group,
         prices: [0, index_to(top, 1), index_to(top, 2), index_to(top, 3)],
     };
-    Around {
+    NodeRegion {
         mode: node.mode,
         region,
         first: number - corner.index,
@@ -171,14 +171,12 @@ pub fn region_at(timers: usize, ceilings: [u8; Region::MOST_TIMERS], number: usi
 }
 
 // "E = m × the product of all (ceiling + 1) × that number", if it is not above 65,536.
-pub fn node_count(table: Table) -> Nodes
-    requires { ⌜ IsTable table ⌝ }
-    ensures { λ r. ⌜ r ≡ bounded (nodeCount (automaton (fields table))) ⌝ }
+pub fn node_count(table: &[u8; TABLE]) -> Nodes
+    requires { ⌜ IsTable (now table) ⌝ }
+    ensures { λ r. ⌜ r ≡ bounded (nodeCount (automatonOf (now (table .entry)))) ⌝ }
 {
-    let modes = table.modes as u32;
-    let timers = table.timers;
-    let ceilings = table.ceilings;
-    let count = modes * cells(ceilings) * tables::corner_count(timers);
+    let modes = table::modes(table) as u32;
+    let count = modes * cells(table::ceilings(table)) * tables::corner_count(table::timers(table));
     if count as usize <= MOST_NODES {
         Nodes::Count(count as usize)
     } else {

@@ -1,6 +1,6 @@
 -- What the words of a search say of the goal is the answer: no route, a route for which there are too few bytes, or the route written.
 -- Assumes nothing.
-use mathlib.Core.Path.{_≡_, refl, sym, ap, ap₂, _∙_}
+use mathlib.Core.Path.{_≡_, refl, sym, ap, ap₂, subst, _∙_}
 use mathlib.Core.Logic.{_≢_}
 use mathlib.Core.List.{List, _++_}
 use Prim.Native.Nat.{ℕ, _≤_, _<_}
@@ -13,24 +13,24 @@ use Rattle.semantics.specs.Order.{Cost, cost}
 use Rattle.semantics.specs.Graph.Path.{unreached, reached, infinity, table}
 use Rattle.semantics.specs.NodeCount.{nodeCount}
 use Rattle.semantics.specs.Graph.Distance.{distance}
-use Rattle.semantics.specs.Chain.{begin}
 use Rattle.semantics.specs.Answer.{Answer as Best, route, answer}
 use Rattle.semantics.specs.Paths.Near.{near-best}
 use Rattle.semantics.specs.Answers.Table.{unreached-answer, greedy-answer, greedy-steps}
 use Rattle.semantics.specs.Answers.Forward.{into-least}
-use Rattle.reader.specs.declared.opened.Table.{Table}
 use Rattle.reader.specs.Fields.{mostPrice}
-use Rattle.reader.specs.Theorems.Opened.{table-proper}
+use Rattle.reader.specs.Held.{automatonOf}
+use Rattle.reader.specs.Theorems.Access.{table-proper}
 use Rattle.search.specs.Outcome.{mostNodes, cleared}
 use Rattle.search.specs.declared.near.Cost.{Cost as CostHeld}
-use Rattle.search.specs.declared.places.Place.{Place as PlaceHeld}
-use Rattle.search.specs.Regions.{automatonOf, graphOf, startOf}
-use Rattle.search.specs.Near.{IsBest}
-use Rattle.search.specs.Places.{packPlace}
+use Rattle.search.specs.declared.space.Space.{Space}
+use Rattle.search.specs.Space.{graphOf, startOf, IsSpace}
+use Rattle.search.specs.Near.{costEntry, BestRoom, IsBest}
 use Rattle.route.specs.declared.Answer.the-variants.{Refused, NoRoute, Route}
 use Rattle.route.specs.Plan.{outcome, routed}
-use Rattle.route.specs.Walk.{Found, RestKept, ReadOff, WalkAt, WalkDone, Walked}
-use Rattle.search.specs.Laws.Goal.{costEntry, best-target, goal-closed, goal-light, goal-inside, goal-small}
+use Rattle.route.specs.Walk.{RestKept, WalkReady, WalkDone}
+use Rattle.route.specs.Found.{Found, ReadOff}
+use Rattle.search.specs.Laws.Shares.{table-setting}
+use Rattle.search.specs.Laws.Goal.{best-target, goal-closed, goal-light, goal-inside, goal-small}
 
 -- The two outcomes of a route.
 module _ (a : Automaton) (C : ℕ) (ks ws rs : List ℕ) where
@@ -41,26 +41,35 @@ module _ (a : Automaton) (C : ℕ) (ks ws rs : List ℕ) where
   routed-full h = rw (le-leb (length ks) (length rs) h)
 
 -- Words that were not touched.
-rest-same : (t : Table) (ws : List ℕ) → RestKept t ws ws
+rest-same : (t ws : List ℕ) → RestKept t ws ws
 rest-same t ws = record { rest = refl; kept = refl }
 
 -- The route was written.
 written :
-    (t : Table) (best : Cost) (ws rs ws′ rs′ : List ℕ) → best .steps ≤ length rs → WalkDone t (t .goal) best ws rs ws′ rs′
-    → ReadOff t ws rs ws′ rs′ (Route (best .charge) (best .steps))
-written t best ws rs ws′ rs′ room w =
+    (t : List ℕ) (best : Cost) (ws rs ws′ rs′ : List ℕ) → distance (graphOf t (automatonOf t .goal)) (startOf t) ≡ reached best
+    → best .steps ≤ length rs → WalkDone t ws rs ws′ rs′ → ReadOff t ws rs ws′ rs′ (Route (best .charge) (best .steps))
+written t best ws rs ws′ rs′ is room w =
     let a = automatonOf t in
-    let C = best .charge in
     let ks = w .bytes in
-    let same = sym (w .counted) in
+    let found = w .is-best in
+    let own : w .best ≡ best = cc in
+    let same : best .steps ≡ length ks = sym (w .counted ∙ ap (λ (c : Cost). c .steps) own) in
+    let stored : rs′ ≡ ks ++ drop (best .steps) rs = w .stored ∙ ap (λ (c : Cost). ks ++ drop (c .steps) rs) own in
+    let route-is : answer a (a .goal) ≡ route (best .charge) ks = w .is-route ∙ ap (λ (c : Cost). route (c .charge) ks) own in
     record {
       is-answer = λ vs.
-          ap₂ (λ (n : ℕ) (l : List ℕ). outcome (Route C n) (cleared a vs) l) same (w .stored ∙ ap (λ (n : ℕ). ks ++ drop n rs) same)
-          ∙ sym (ap (λ (x : Best). routed a x vs rs) (w .is-route) ∙ routed-full a C ks vs rs (omega (arith, w .counted)));
+          ap₂ (λ (n : ℕ) (l : List ℕ). outcome (Route (best .charge) n) (cleared a vs) l) same (stored ∙ ap (λ (n : ℕ). ks ++ drop n rs) same)
+          ∙ sym (ap (λ (x : Best). routed a x vs rs) route-is ∙ routed-full a (best .charge) ks vs rs (omega (arith, same)));
       words = w .words;
     }
 
-module _ {t : Table} {nodes : ℕ} {ws : List ℕ} (f : Found t nodes ws) (r : CostHeld) (best : IsBest nodes (t .goal) (t .modes) ws r) where
+-- What is asked to find the goal's cost.
+pub best-room :
+    {t rules : List ℕ} {nodes : ℕ} {ws : List ℕ} → Found t rules nodes ws → (modes : ℕ) → modes ≡ length (automatonOf t .modes) → BestRoom nodes modes ws
+best-room {t} {rules} {nodes} {ws} f modes e = subst (λ (m : ℕ). BestRoom nodes m ws) (sym e) (f .room)
+
+module _ {t rules : List ℕ} {nodes : ℕ} {ws : List ℕ} (f : Found t rules nodes ws) (r : CostHeld)
+    (best : IsBest nodes (automatonOf t .goal) (length (automatonOf t .modes)) ws r) where
   -- The automaton is one of the theory, with few nodes.
   proper : Proper (automatonOf t)
   proper = table-proper t (f .is-table)
@@ -69,18 +78,18 @@ module _ {t : Table} {nodes : ℕ} {ws : List ℕ} (f : Found t nodes ws) (r : C
   few = omega (arith, f .few, f .counted)
 
   -- The cost that was found is the least cost from the start into the goal.
-  found-distance : costEntry r ≡ distance (graphOf t (t .goal)) (startOf t)
+  found-distance : costEntry r ≡ distance (graphOf t (automatonOf t .goal)) (startOf t)
   found-distance =
       let k = f .is-table in
-      let l = t .goal in
+      let l = automatonOf t .goal in
       near-best (graphOf t l) (startOf t) (goal-closed t k l) (goal-inside t k l) mostPrice (goal-light t k l) (goal-small t k l few) (table ws) (f .near)
-      (costEntry r) (best-target t k l nodes (t .modes) (f .counted) refl ws r best)
+      (costEntry r) (best-target t k l nodes (length (automatonOf t .modes)) (f .counted) refl ws r best)
 
   -- There is none.
   pub read-none : r .charge ≡ infinity → (rs : List ℕ) → ReadOff t ws rs ws rs NoRoute
   read-none none rs =
       let a = automatonOf t in
-      let l = t .goal in
+      let l = automatonOf t .goal in
       let no : costEntry r ≡ unreached = rw (eq-eqb (r .charge) infinity none) refl in
       let is = unreached-answer a proper l (distance (graphOf t l)) (into-least a proper l) (sym found-distance ∙ no) in
       record { is-answer = λ vs. sym (ap (λ (x : Best). routed a x vs rs) is); words = rest-same t ws }
@@ -88,13 +97,13 @@ module _ {t : Table} {nodes : ℕ} {ws : List ℕ} (f : Found t nodes ws) (r : C
   -- There is one.
   module _ (known : r .charge ≢ infinity) (rs : List ℕ) where
     -- It is the least cost from the start, and that of the route.
-    found : distance (graphOf t (t .goal)) (startOf t) ≡ reached (cost (r .charge) (r .steps))
+    found : distance (graphOf t (automatonOf t .goal)) (startOf t) ≡ reached (cost (r .charge) (r .steps))
     found = sym found-distance ∙ rw (ne-eqb (r .charge) infinity known) refl
 
-    found-route : (ks : List ℕ) × (answer (automatonOf t) (t .goal) ≡ route (r .charge) ks) × (length ks ≡ r .steps)
+    found-route : (ks : List ℕ) × (answer (automatonOf t) (automatonOf t .goal) ≡ route (r .charge) ks) × (length ks ≡ r .steps)
     found-route =
         let a = automatonOf t in
-        let l = t .goal in
+        let l = automatonOf t .goal in
         let c = cost (r .charge) (r .steps) in
         let least = into-least a proper l in
         (_, greedy-answer a proper l (distance (graphOf t l)) least c found, greedy-steps a proper l (distance (graphOf t l)) least c found)
@@ -110,27 +119,11 @@ module _ {t : Table} {nodes : ℕ} {ws : List ℕ} (f : Found t nodes ws) (r : C
         }
 
     -- There are bytes for the steps, so that the route can be written.
-    module _ (room : r .steps ≤ length rs) (start : PlaceHeld) (begins : start ≡ packPlace (begin (automatonOf t))) where
-      pub walk-ready :
-          WalkAt t start (t .goal) (t .moves) (t .ceilings) (t .rates) (t .invariants) (t .sources) (t .targets) (t .prices) (t .guards) (t .resets) ws rs
+    module _ (room : r .steps ≤ length rs) (s : Space) (space : IsSpace t s) where
+      pub walk-ready : WalkReady t rules s ws rs
       walk-ready = record {
-        lends = record {
-          is-table = f .is-table;
-          moves-are = refl;
-          ceilings-are = refl;
-          arrays = record {
-            rates-are = refl;
-            invariants-are = refl;
-            sources-are = refl;
-            targets-are = refl;
-            prices-are = refl;
-            guards-are = refl;
-            resets-are = refl;
-          };
-          few = few;
-        };
-        begins = begins;
-        words = omega (arith, f .room .words .room, f .counted);
+        setting = table-setting t (f .is-table) (f .is-rules) space few;
+        words = omega (arith, f .room .words .room, f .counted, space .nodes-are);
         near = f .near;
         best = cost (r .charge) (r .steps);
         is-best = found;
@@ -138,10 +131,5 @@ module _ {t : Table} {nodes : ℕ} {ws : List ℕ} (f : Found t nodes ws) (r : C
       }
 
       -- It was written.
-      pub read-written :
-          (ws′ rs′ : List ℕ)
-          → Walked start (t .goal) (t .moves) (t .ceilings) (t .rates) (t .invariants) (t .sources) (t .targets) (t .prices) (t .guards) (t .resets) ws rs
-          ws′ rs′
-          → ReadOff t ws rs ws′ rs′ (Route (r .charge) (r .steps))
-      unfolding walk-ready
-      read-written ws′ rs′ w = written t (cost (r .charge) (r .steps)) ws rs ws′ rs′ room (w t walk-ready)
+      pub read-written : (ws′ rs′ : List ℕ) → WalkDone t ws rs ws′ rs′ → ReadOff t ws rs ws′ rs′ (Route (r .charge) (r .steps))
+      read-written ws′ rs′ w = written t (cost (r .charge) (r .steps)) ws rs ws′ rs′ found room w

@@ -1,246 +1,247 @@
--- The walk that writes the route: what holds at each of its turns, that it may go a step further, and that it ends with the route.
+-- A walk begins at the start, may ask for its next step wherever it stands, and ends in the goal with the route written.
 -- Assumes nothing.
 use mathlib.Core.Path.{_≡_, refl, sym, ap, subst, _∙_}
-use mathlib.Core.List.{List, [], _∷_, _++_}
-use mathlib.Core.Option.{some}
-use Prim.Native.Nat.{ℕ, suc, _+_, _*_, _-_, _/_, _%_, _≤_, _<_, max}
-use native.Mathlib.Nat.{mul-suc, mul-le-mul-left}
-use native.Mathlib.Numerals.{add-one}
+use mathlib.Core.Logic.{_≢_}
+use mathlib.Core.List.{List, _++_}
+use Prim.Native.Nat.{ℕ, suc, _+_, _*_, _/_, _≤_, _<_}
+use native.Mathlib.Nat.{mul-assoc, mul-comm, div-div-eq-div-mul}
+use native.Mathlib.Decide.{ℕ-discrete}
 use native.Mathlib.Omega.{arith}
-use lib.ListN.{length, take, drop, set, replicate, length-append, length-set, length-replicate, take-append-drop}
-use lib.Seq.{length-take-le, take-suc-set, drop-set-lt}
+use lib.ListN.{length, take, drop, length-replicate, take-append-drop}
+use lib.Seq.{length-take-le}
 use Rattle.semantics.specs.Automata.Proper.{Proper}
-use Rattle.semantics.specs.Order.{Cost}
-use Rattle.semantics.specs.Graph.Path.{infinity, table}
-use Rattle.semantics.specs.NodeCount.{nodeCount}
-use Rattle.semantics.specs.Chain.{Place, step, follow, begin, chain}
-use Rattle.semantics.specs.Regions.Lengths.{prices-top}
-use Rattle.semantics.specs.Bounds.Prices.{price}
+use Rattle.semantics.specs.Automaton.{Automaton, timers}
+use Rattle.semantics.specs.Order.{cost}
+use Rattle.semantics.specs.NodeCount.{cornerCount, cellCount, nodeCount}
+use Rattle.semantics.specs.Chain.{Place}
+use Rattle.semantics.specs.Graph.Path.{Least, reached, infinity, chargeAt, table}
+use Rattle.semantics.specs.Nodes.Node.{nodeAt}
+use Rattle.semantics.specs.Corners.Edges.{SamePlace}
+use Rattle.semantics.specs.Corners.Lists.{length-countFrom}
+use Rattle.semantics.specs.Graph.CornerGraph.{highest, nodePlace, numberOf, cornerGraph}
+use Rattle.semantics.specs.Paths.Least.{least-steps, least-charge}
+use Rattle.semantics.specs.Paths.Words.{table-unreached, table-reached}
+use Rattle.semantics.specs.Answers.Places.{IsPlace, corner-top, number-below, place-alike}
+use Rattle.semantics.specs.Answers.Graph.{number-alike, graph-nodes, graph-closed, graph-weights}
 use Rattle.semantics.specs.Answers.System.{begin-inside}
-use Rattle.semantics.specs.Answers.Table.{greedy-answer, greedy-steps}
-use Rattle.semantics.specs.Answers.Best.{answer-steps}
+use Rattle.semantics.specs.Answers.Marks.{Led}
 use Rattle.semantics.specs.Answers.Forward.{into-least}
-use Rattle.semantics.specs.Answers.Onward.{step-chain}
-use Rattle.semantics.specs.Answers.Walk.{Walk, walk-begins, walk-few, walk-tried, walk-further, walk-ends}
-use Rattle.reader.specs.declared.opened.Table.{Table}
+use Rattle.semantics.specs.Answers.Trail.{Trail, trail-begins, trail-entry, trail-node, trail-among, trail-ends, trail-tried}
 use Rattle.reader.specs.Fields.{mostPrice}
-use Rattle.reader.specs.Theorems.Opened.{table-proper}
-use Rattle.search.specs.Outcome.{mostNodes}
-use Rattle.search.specs.declared.places.Place.{Place as PlaceHeld}
-use Rattle.search.specs.Regions.{automatonOf}
-use Rattle.search.specs.Places.{viewPlace, PlaceAt, WordsAt}
-use Rattle.search.specs.Laws.Chains.{PricesBelow, start-at, prices-room}
-use Rattle.search.specs.Laws.Standing.{stands-iff, live}
-use Rattle.route.specs.declared.Chosen.{Chosen}
-use Rattle.route.specs.Walk.{RestKept, WalkAt, WalkDone, ChooseAt, Chooses, Choice, LedTo, Kept}
-use Rattle.route.proofs.ChainPrices.{chain-prices}
-use Rattle.route.proofs.Retracing.{kept-more, kept-stored}
+use Rattle.reader.specs.Held.{automatonOf}
+use Rattle.reader.specs.Theorems.Access.{table-proper, amounts-within}
+use Rattle.search.specs.declared.space.Space.{Space}
+use Rattle.steps.specs.declared.Stand.{Stand}
+use Rattle.steps.specs.declared.Next.{Next}
+use Rattle.search.specs.Space.{startOf, placeOf}
+use Rattle.steps.specs.Steps.{Marked, standPlace, Tells, StandReady, IsNext, NextStep}
+use Rattle.route.specs.Walk.{WalkReady, WalkDone}
+use Rattle.route.proofs.MarkedSets.{marked-one}
+use Rattle.route.proofs.Trailing.{marks, Shown, gone, plain, Walking, shown-charge, shown-next, next-shown}
 
--- The walk stands after `depth` route bytes and has tried the bytes below `first` there. The places before are kept, from the depth `low` on.
-pub record Walking
-    (t : Table) (goal : ℕ) (best : Cost) (ws₀ rs₀ ws rs : List ℕ) (place : PlaceHeld) (depth first low : ℕ) (trail : List PlaceHeld) : Type 0 where
-  pub within : depth ≤ best .steps
-  pub walk : Walk (automatonOf t) goal (table ws) (take depth rs) (viewPlace place) first
-  pub held : PlaceAt t place
-  pub below : first ≤ 66
-  pub low-within : low ≤ depth
-  pub kept : Kept t rs low depth trail
-  pub rest : drop (best .steps) rs ≡ drop (best .steps) rs₀
-  pub sized : length rs ≡ length rs₀
-  pub words : RestKept t ws₀ ws
+-- The place of a node, with the indices of its corners as prices, has the shape of the one with 0 as prices.
+placeOf-same : (a : Automaton) (v : ℕ) → SamePlace (nodePlace (nodeAt (a .ceilings) v)) (placeOf a v)
+placeOf-same a v =
+    let n = suc (highest (nodeAt (a .ceilings) v .corner .group)) in
+    record {
+      mode = refl;
+      region = record { whole = refl; group = refl; corners = length-replicate n 0 ∙ sym (length-countFrom 0 n) };
+    }
 
--- A bound on the turns to come: a turn goes a step further, of which there are at most as many as route bytes, or leaves a node.
-unfoldable pub turns : List ℕ → List ℕ → List ℕ → ℕ → ℕ
-turns ws₀ rs₀ ws depth = (length rs₀ + 1) * live (length ws₀ / 2) ws + (length rs₀ - depth)
+-- The mode of a node is the number of the mode's share of all nodes.
+mode-share : (a : Automaton) (v : ℕ) → placeOf a v .mode ≡ v / (cellCount (a .ceilings) * cornerCount (timers a) 1)
+unfolding nodeAt
+mode-share a v =
+    let cells = cellCount (a .ceilings) in
+    let corners = cornerCount (timers a) 1 in
+    div-div-eq-div-mul v corners cells ∙ ap (λ (n : ℕ). v / n) (mul-comm corners cells)
 
-module _ (ws₀ rs₀ ws : List ℕ) (depth : ℕ) where
-  -- A step further is one turn less.
-  turns-less : depth < length rs₀ → turns ws₀ rs₀ ws (depth + 1) < turns ws₀ rs₀ ws depth
-  unfolding turns
-  turns-less h = omega arith
+module _ {t rs : List ℕ} {s : Space} {ws₀ bs₀ : List ℕ} (w : WalkReady t rs s ws₀ bs₀) where
+  abbrev a : Automaton
+  a = automatonOf t
 
-  -- And so is a step back, if fewer nodes are live.
-  pub turns-fewer :
-      (ws′ : List ℕ) → live (length ws₀ / 2) ws′ < live (length ws₀ / 2) ws → turns ws₀ rs₀ ws′ (depth - 1) < turns ws₀ rs₀ ws depth
-  unfolding turns
-  turns-fewer ws′ h =
-      let n = length rs₀ + 1 in
-      let m = live (length ws₀ / 2) ws in
-      let m′ = live (length ws₀ / 2) ws′ in
-      let less : n * suc m′ ≤ n * m = mul-le-mul-left n (omega arith) in
-      let more : n * suc m′ ≡ n * m′ + n = mul-suc n m′ in
-      omega arith
+  abbrev l : ℕ
+  l = automatonOf t .goal
 
-module _
-    {t : Table} {start : PlaceHeld} {goal moves : ℕ} {ceilings rates invariants sources targets prices guards resets ws₀ rs₀ : List ℕ}
-    (w : WalkAt t start goal moves ceilings rates invariants sources targets prices guards resets ws₀ rs₀) where
-  -- The automaton of a table is one of the theory.
   pub proper : Proper (automatonOf t)
-  proper = table-proper t (w .lends .is-table)
+  proper = table-proper t (w .setting .is-table)
+
+  -- The nodes of the graph are those of the struct.
+  pub nodes-are : cornerGraph (automatonOf t) (automatonOf t .goal) .nodes ≡ s .nodes
+  nodes-are = graph-nodes a l ∙ sym (w .setting .is-space .nodes-are)
+
+  start-inside : startOf t < cornerGraph a l .nodes
+  start-inside = rw (graph-nodes a l) (begin-inside a proper)
+
+  best-least : Least (cornerGraph a l) (startOf t) (w .best)
+  best-least = into-least a proper l .least (startOf t) (w .best) start-inside (w .is-best)
 
   -- The route has fewer steps than there are nodes.
-  pub steps-few : w .best .steps < nodeCount (automatonOf t)
-  steps-few =
-      let a = automatonOf t in
-      let d = into-least a proper goal in
-      let e = greedy-answer a proper goal _ d (w .best) (w .is-best) in
-      omega (
-        arith,
-        answer-steps a proper goal (w .best .charge) _ e,
-        greedy-steps a proper goal _ d (w .best) (w .is-best),
-        begin-inside a proper,
-      )
+  pub steps-few : w .best .steps < s .nodes
+  steps-few = omega (arith, nodes-are, least-steps (cornerGraph a l) (graph-closed a l proper) (startOf t) start-inside (w .best) best-least)
 
-  -- Prices after few steps are below infinity.
-  pub chain-finite :
-      (ks : List ℕ) (p : Place) → chain (automatonOf t) ks ≡ some p → length ks ≤ mostNodes → (j : ℕ) → j < length (p .region .prices)
-      → price (p .region) j < infinity
-  chain-finite ks p e few j h =
-      omega (arith, chain-prices t (w .lends .is-table) ks p e j (omega (arith, prices-top (p .region) (omega arith))))
+  -- And its charge is far below infinity.
+  pub charge-few : w .best .charge + 65535 < infinity
+  charge-few =
+      let most =
+      least-charge (cornerGraph a l) (graph-closed a l proper) (startOf t) start-inside (w .best) best-least mostPrice
+      (graph-weights a l proper mostPrice (amounts-within t (w .setting .is-table))) in
+      omega (arith, most, nodes-are, w .setting .few)
 
-  -- The walk begins at the start.
-  pub walking-begins :
-      Walking t goal (w .best) ws₀ rs₀ ws₀ rs₀ start 0 0 0 (replicate 8 start)
-  unfolding chain follow
-  walking-begins =
-      let a = automatonOf t in
-      let first = start-at t (w .lends .is-table) in
-      let same : begin a ≡ viewPlace start = sym (ap viewPlace (w .begins) ∙ first .1) in
-      let held : PlaceAt t start = rw (w .begins) (first .0) in
-      record {
-        within = omega arith;
-        walk = subst (λ (p : Place). Walk a goal (table ws₀) [] p 0) same (walk-begins a proper goal (w .best) (w .is-best) (table ws₀) (w .near));
-        held = held;
-        below = omega arith;
-        low-within = omega arith;
-        kept = record { eight = length-replicate 8 start; led = λ i none _ h. absurd (omega arith) };
-        rest = refl;
-        sized = refl;
-        words = record { rest = refl; kept = refl };
-      }
+  -- A mode has nodes.
+  pub block-some : 0 < s .block
+  unfolding nodeCount
+  block-some = at (ℕ-discrete (s .block) 0)
+    where
+      at : Dec (s .block ≡ 0) → 0 < s .block
+      at (no b) = omega arith
+      at (yes b) =
+          let modes = length (a .modes) in
+          let none : cellCount (a .ceilings) * cornerCount (timers a) 1 ≡ 0 = sym (w .setting .is-space .block-is) ∙ b in
+          let all = w .setting .is-space .nodes-are ∙ mul-assoc modes (cellCount (a .ceilings)) (cornerCount (timers a) 1) in
+          absurd (omega (arith, steps-few, all, ap (λ (n : ℕ). modes * n) none))
 
-  module _
-      {ws rs : List ℕ} {place : PlaceHeld} {depth first low : ℕ} {trail : List PlaceHeld}
-      (k : Walking t goal (w .best) ws₀ rs₀ ws rs place depth first low trail) where
-    -- As many steps were taken as the walk is deep.
-    pub taken : length (take depth rs) ≡ depth
-    taken = length-take-le depth rs (omega (arith, k .within, k .sized, w .room))
+  -- It begins at the start, where only corner 0 is marked.
+  pub walking-begins : (r : ℕ) → r ≡ startOf t → Walking w ws₀ bs₀ (record { first = r; set = 1; steps = 0; byte = 0 })
+  walking-begins r e = record {
+    costs = table ws₀;
+    firsts = λ i. r;
+    sets = λ i. 1;
+    trail = trail-begins a proper l (w .best) (w .is-best) (table ws₀) (w .near) (λ i. r) e (marks (λ i. 1)) marked-one;
+    shown = λ v. at v (ℕ-discrete (chargeAt ws₀ v) infinity);
+    pointers = λ i h. absurd (omega arith);
+    sixteen = λ i. omega arith;
+    first-is = refl;
+    set-is = refl;
+    within = omega arith;
+    below = omega arith;
+    bytes-below = λ i h. absurd (omega arith);
+    bytes = refl;
+    sized = refl;
+    words = record { rest = refl; kept = refl };
+  }
+    where
+      at : (v : ℕ) → Dec (chargeAt ws₀ v ≡ infinity) → Shown (λ i. r) (λ i. 1) 0 ws₀ (table ws₀) v
+      at v (yes q) = gone q (table-unreached ws₀ v q)
+      at v (no q) = plain q (table-reached ws₀ v q)
 
-    -- And they are few.
-    pub depth-few : depth < mostNodes
-    depth-few = omega (arith, k .within, steps-few, w .lends .few)
+  module _ {ws bs : List ℕ} {z : Stand} (k : Walking w ws bs z) where
+    -- As many steps were taken as the walk is deep, and they are few.
+    pub taken : length (take (z .steps) bs) ≡ z .steps
+    taken = length-take-le (z .steps) bs (omega (arith, k .within, k .sized, w .room))
 
-    -- There are still words for all nodes.
-    pub words-room : 2 * nodeCount (automatonOf t) ≤ length ws
+    pub steps-short : z .steps < 65535
+    steps-short = omega (arith, k .within, steps-few, w .setting .few)
+
+    -- There are words for all nodes.
+    pub words-room : 2 * s .nodes ≤ length ws
     words-room = omega (arith, w .words, k .words .kept)
 
-    -- What is asked of the choice of the next byte.
-    pub choosing : ChooseAt t place first moves ceilings rates invariants sources targets prices guards resets ws
-    choosing =
-        let low : PricesBelow (depth * mostPrice) (viewPlace place) =
-        rw taken at (chain-prices t (w .lends .is-table) (take depth rs) (viewPlace place) (k .walk .ends)) in
-        record {
-          step = record {
-            is-table = w .lends .is-table;
-            moves-are = w .lends .moves-are;
-            ceilings-are = w .lends .ceilings-are;
-            arrays = w .lends .arrays;
-            held = k .held;
-            room = prices-room t (w .lends .is-table) place (k .held) (depth * mostPrice) low (omega (arith, depth-few));
-          };
-          few = w .lends .few;
-          words = words-room;
-          below = k .below;
-        }
+    -- A marked corner of a place on the way is a node, whose charge is small and whose steps are those that led there.
+    pub entry-at :
+        (i : ℕ) → i ≤ z .steps → (j : ℕ) → Marked (k .sets i) j
+        → (k .firsts i + j < s .nodes) × ((c : ℕ) × (c ≤ w .best .charge) × (k .costs (k .firsts i + j) ≡ reached (cost c i)))
+    entry-at i h j m =
+        let o = trail-entry a proper l (w .best) (w .is-best) (k .trail) i (omega (arith, taken)) j m in
+        (omega (arith, o .0, nodes-are), o .1)
 
-    -- The bytes taken lead to the place.
-    led-here : LedTo t rs depth place
-    led-here = record { chained = k .walk .ends; held = k .held }
+    pub entry-here :
+        (j : ℕ) → Marked (z .set) j
+        → (z .first + j < s .nodes) × ((c : ℕ) × (c ≤ w .best .charge) × (k .costs (z .first + j) ≡ reached (cost c (z .steps))))
+    entry-here j m =
+        subst (λ (v : ℕ). (v + j < s .nodes) × ((c : ℕ) × (c ≤ w .best .charge) × (k .costs (v + j) ≡ reached (cost c (z .steps)))))
+        (k .first-is) (entry-at (z .steps) (omega arith) j (subst (λ (n : ℕ). Marked n j) (sym (k .set-is)) m))
 
-    -- What is asked for the place to be left.
-    pub leaving : WordsAt t place ceilings ws
-    leaving =
-        record { is-table = w .lends .is-table; ceilings-are = w .lends .ceilings-are; held = k .held; few = w .lends .few; room = words-room }
+    -- The place at hand has its first node.
+    pub firsts-here : k .firsts (length (take (z .steps) bs)) ≡ z .first
+    firsts-here = ap (k .firsts) taken ∙ k .first-is
+
+    pub sets-here : k .sets (length (take (z .steps) bs)) ≡ z .set
+    sets-here = ap (k .sets) taken ∙ k .set-is
+
+    node-place : IsPlace a (nodePlace (nodeAt (a .ceilings) (z .first))) × (numberOf a (nodePlace (nodeAt (a .ceilings) (z .first))) 0 ≡ z .first)
+    node-place =
+        subst (λ (v : ℕ). IsPlace a (nodePlace (nodeAt (a .ceilings) v)) × (numberOf a (nodePlace (nodeAt (a .ceilings) v)) 0 ≡ v)) firsts-here
+        (trail-node a proper l (w .best) (w .is-best) (k .trail))
+
+    pub stand-place : IsPlace (automatonOf t) (standPlace t z)
+    stand-place = place-alike a _ (standPlace t z) (placeOf-same a (z .first)) (node-place .0)
+
+    pub stand-first : numberOf (automatonOf t) (standPlace t z) 0 ≡ z .first
+    stand-first = sym (number-alike a _ (standPlace t z) (placeOf-same a (z .first)) 0) ∙ node-place .1
+
+    pub first-there : numberOf (automatonOf t) (standPlace t z) 0 ≡ k .firsts (length (take (z .steps) bs))
+    first-there = stand-first ∙ sym firsts-here
+
+    -- The words tell what is asked of them.
+    pub tells : Tells s z ws (k .costs)
+    tells = record {
+      entry = λ j m.
+          let o = entry-here j m in
+          let v = z .first + j in
+          o .1 .2 ∙ ap (λ (c : ℕ). reached (cost c (z .steps))) (sym (shown-charge _ (k .shown v) (o .1 .2) .0));
+      next = λ v c h b. (λ e. shown-next c (k .shown v) e, λ e. next-shown c b (omega (arith, steps-short)) (k .shown v) e);
+    }
+
+    pub ready : StandReady t rs s z ws
+    ready = record {
+      setting = w .setting;
+      words = words-room;
+      there = omega (arith, stand-first, w .setting .is-space .nodes-are, number-below a (standPlace t z) stand-place 0 (stand-place .well-formed .priced));
+      first-is = stand-first;
+      corners = λ j m.
+          corner-top (standPlace t z .region) (stand-place .well-formed) j .0
+          (trail-among a proper l (w .best) (w .is-best) (k .trail) (standPlace t z) stand-place first-there j
+          (subst (λ (n : ℕ). Marked n j) (sym sets-here) m));
+      sixteen = omega (arith, k .sixteen (z .steps), k .set-is);
+      room = λ j m.
+          let o = entry-here j m in
+          omega (arith, shown-charge _ (k .shown (z .first + j)) (o .1 .2) .0, o .1 .1, charge-few);
+      short = omega (arith, steps-short);
+      below = k .below;
+      table = k .costs;
+      tells = tells;
+    }
 
     -- In the goal the route is written.
-    pub walking-ends : place .mode ≡ goal → WalkDone t goal (w .best) ws₀ rs₀ ws rs
+    pub walking-ends : z .first / s .block ≡ automatonOf t .goal → WalkDone t ws₀ bs₀ ws bs
     walking-ends e =
-        let o = walk-ends (automatonOf t) proper goal (w .best) (w .is-best) (k .walk) e in
-        let all : depth ≡ w .best .steps = sym taken ∙ o .1 in
+        let mode : standPlace t z .mode ≡ l =
+        mode-share a (z .first) ∙ ap (λ (n : ℕ). z .first / n) (sym (w .setting .is-space .block-is)) ∙ e in
+        let o = trail-ends a proper l (w .best) (w .is-best) (k .trail) (standPlace t z) stand-place first-there mode in
+        let all : z .steps ≡ w .best .steps = sym taken ∙ o .1 in
         record {
-          bytes = take depth rs;
+          best = w .best;
+          is-best = w .is-best;
+          bytes = take (z .steps) bs;
           is-route = o .0;
           counted = o .1;
-          stored = sym (take-append-drop depth rs) ∙ ap (λ (l : List ℕ). take depth rs ++ l) (ap (λ (n : ℕ). drop n rs) all ∙ k .rest);
+          stored =
+              sym (take-append-drop (z .steps) bs)
+              ∙ ap (λ (x : List ℕ). take (z .steps) bs ++ x) (ap (λ (n : ℕ). drop n bs) all ∙ k .bytes);
           words = k .words;
         }
 
-    -- A byte was chosen.
-    module _
-        (r : Chosen)
-        (choice : Choice place first (depth + 1) moves ceilings rates invariants sources targets prices guards resets ws r) where
-      -- It is the least that leads on.
-      c : Chooses t place first (depth + 1) ws r
-      c = choice t choosing
+    -- Elsewhere the place is not in the goal.
+    pub away : z .first / s .block ≢ automatonOf t .goal → standPlace t z .mode ≢ automatonOf t .goal
+    away n e =
+        n (ap (λ (m : ℕ). z .first / m) (w .setting .is-space .block-is) ∙ sym (mode-share a (z .first)) ∙ e)
 
-      -- The bytes before it lead to no place that stands.
-      pub walking-tried : (byte : ℕ) → byte ≤ r .byte → Walk (automatonOf t) goal (table ws) (take depth rs) (viewPlace place) byte
-      walking-tried byte b =
-          let a = automatonOf t in
-          let next : suc (length (take depth rs)) ≡ depth + 1 = omega (arith, taken) in
-          walk-tried a proper goal (w .best) (w .is-best) (k .walk) byte
-          (λ k′ z from to e s.
-          let more = length-append (take depth rs) (k′ ∷ []) in
-          let finite =
-          chain-finite (take depth rs ++ k′ ∷ []) z (step-chain a (take depth rs) (viewPlace place) (k .walk .ends) k′ z e)
-          (omega (arith, more, taken, depth-few)) in
-          let no = c .none-before k′ z from (omega arith) e in
-          let yes = stands-iff a ws z (depth + 1) finite .1 (rw next at s) in
-          let y : _≡_ {A = ℕ} 0 1 = cc in
-          omega arith)
+    -- What the next step says of the table.
+    module _ (r : Next) (step : NextStep t s z ws r) where
+      pub is-next : IsNext t (automatonOf t .goal) (k .costs) z r
+      is-next = step l (k .costs) tells
 
-      -- It leads on.
-      module _ (b : r .byte < 66) where
-        -- So the walk of the theory goes a step further.
-        further : Walk (automatonOf t) goal (table ws) (take depth rs ++ r .byte ∷ []) (viewPlace (r .place)) 0
-        further =
-            let a = automatonOf t in
-            let ks = take depth rs in
-            let next : depth + 1 ≡ suc (length ks) = omega (arith, taken) in
-            let z = viewPlace (r .place) in
-            let finite =
-            chain-finite (ks ++ r .byte ∷ []) z (step-chain a ks (viewPlace place) (k .walk .ends) (r .byte) z (c .leads b))
-            (omega (arith, length-append ks (r .byte ∷ []), taken, depth-few)) in
-            walk-further a proper goal (w .best) (w .is-best) (walking-tried (r .byte) (omega arith)) z (c .leads b)
-            (rw next at (stands-iff a ws z (depth + 1) finite .0 (c .standing b)))
-
-        -- The route is not yet written then.
-        pub depth-below : depth < w .best .steps
-        depth-below =
-            let few = walk-few (automatonOf t) proper goal (w .best) (w .is-best) further in
-            omega (arith, few, length-append (take depth rs) (r .byte ∷ []), taken)
-
-        -- A turn less is to come.
-        pub turns-further : turns ws₀ rs₀ ws (depth + 1) < turns ws₀ rs₀ ws depth
-        turns-further = turns-less ws₀ rs₀ ws depth (omega (arith, depth-below, w .room))
-
-        -- The walk goes on from the place that the byte leads to, and the place at hand is kept.
-        pub walking-further :
-            (low′ : ℕ) → low′ ≡ max low (depth - 7)
-            → Walking t goal (w .best) ws₀ rs₀ ws (set rs depth (r .byte)) (r .place) (depth + 1) 0 low′ (set trail (depth % 8) place)
-        walking-further low′ e =
-            let there : depth < length rs = omega (arith, depth-below, k .sized, w .room) in
-            let front : take depth rs ++ r .byte ∷ [] ≡ take (depth + 1) (set rs depth (r .byte)) =
-            sym (ap (λ (n : ℕ). take n (set rs depth (r .byte))) (add-one depth) ∙ take-suc-set rs depth (r .byte) there) in
-            record {
-              within = omega (arith, depth-below);
-              walk = rw front at further;
-              held = c .held b;
-              below = omega arith;
-              low-within = omega (arith, k .low-within);
-              kept = kept-stored t rs low′ depth (r .byte) (set trail (depth % 8) place)
-                  (kept-more t rs low low′ depth trail place (k .kept) (omega arith) (omega arith) led-here);
-              rest = drop-set-lt (w .best .steps) rs depth (r .byte) depth-below ∙ k .rest;
-              sized = length-set rs depth (r .byte) ∙ k .sized;
-              words = k .words;
-            }
+      -- The bytes before its byte were tried.
+      pub tried : Trail (automatonOf t) (automatonOf t .goal) (k .costs) (take (z .steps) bs) (r .byte) (k .firsts) (marks (k .sets))
+      tried =
+          trail-tried a proper l (w .best) (w .is-best) (k .trail) (standPlace t z) stand-place first-there (r .byte)
+          (λ b y i from to f led. is-next .none-before b y i from to f (led-here b y i led))
+        where
+          led-here :
+              (b : ℕ) (y : Place) (i : ℕ)
+              → Led a l (k .costs) (standPlace t z) (length (take (z .steps) bs)) (marks (k .sets) (length (take (z .steps) bs))) b y i
+              → Led a l (k .costs) (standPlace t z) (z .steps) (Marked (z .set)) b y i
+          led-here b y i x =
+              subst (λ (m : ℕ). Led a l (k .costs) (standPlace t z) (z .steps) (Marked m) b y i) sets-here
+              (subst (λ (n : ℕ). Led a l (k .costs) (standPlace t z) n (marks (k .sets) (length (take (z .steps) bs))) b y i) taken x)

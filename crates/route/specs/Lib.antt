@@ -8,3 +8,4 @@ pub mod Refused
 pub mod Keeps
 -- What the contracts of the private functions mean.
 pub mod Walk
+pub mod Found

@@ -94,10 +94,10 @@ module _ (bytes ws rs : List ℕ) where
   byte-only m e n (behind f left b x) = let q = begins-run bytes f left b in absurd (true≢false cc)
 
   module _ (f : Fields) (left : List ℕ) (e : run table bytes ≡ took f left) where
-    abbrev Further : ℕ → Type 0
-    Further = Later f left (length ws) (length rs)
+    abbrev Advanced : ℕ → Type 0
+    Advanced = Later f left (length ws) (length rs)
 
-    only-later : (n : ℕ) → Holds n → Further n
+    only-later : (n : ℕ) → Holds n → Advanced n
     only-later n (at-byte q) = absurd (true≢false cc)
     only-later n (behind g l b x) =
         let q = begins-run bytes g l b in
@@ -105,7 +105,7 @@ module _ (bytes ws rs : List ℕ) where
         let rest : l ≡ left = cc in
         subst₂ (λ (h : Fields) (r : List ℕ). Later h r (length ws) (length rs) n) same rest x
 
-    later-fits : (k : ℕ) → Further k → Passes f left (length ws) (length rs) k → Fits (Refused k)
+    later-fits : (k : ℕ) → Advanced k → Passes f left (length ws) (length rs) k → Fits (Refused k)
     later-fits k x p =
         refused-fits k
         (record {

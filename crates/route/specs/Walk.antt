@@ -1,143 +1,101 @@
--- What the private functions of the route ask and do.
+-- What the walk that finds the route asks and does, and so its private functions.
 -- Assumes nothing.
 use mathlib.Core.Path.{_≡_}
-use mathlib.Core.Bool.{true, false}
+use mathlib.Core.Bool.{Bool, cond}
+use mathlib.Core.Logic.{_⊎_}
 use mathlib.Core.List.{List, _++_}
-use mathlib.Core.Option.{some}
-use Prim.Native.Nat.{ℕ, _+_, _*_, _-_, _%_, _≤_, _<_}
-use lib.ListN.{length, getD, take, drop}
+use Prim.Native.Nat.{ℕ, _+_, _*_, _-_, _/_, _%_, _^_, _≤_, _<_}
+use lib.Dec.{eqb}
+use lib.ListN.{length, drop, set}
 use Rattle.semantics.specs.NodeCount.{nodeCount}
 use Rattle.semantics.specs.Order.{Cost}
-use Rattle.semantics.specs.Graph.Path.{reached, table}
+use Rattle.semantics.specs.Graph.Path.{reached, infinity, chargeAt, stepsAt, table}
 use Rattle.semantics.specs.Graph.Distance.{distance}
-use Rattle.semantics.specs.Chain.{Place, step, begin, chain}
 use Rattle.semantics.specs.Answer.{route, answer}
 use Rattle.semantics.specs.Answers.Walk.{NearCosts}
-use Rattle.reader.specs.declared.opened.Table.{Table}
-use Rattle.reader.specs.Opened.{IsTable}
-use Rattle.search.specs.Outcome.{mostNodes, cleared}
-use Rattle.search.specs.declared.places.Place.{Place as PlaceHeld}
-use Rattle.search.specs.Regions.{automatonOf, graphOf, startOf}
-use Rattle.search.specs.Spread.{Arrays}
-use Rattle.search.specs.Near.{BestRoom}
-use Rattle.search.specs.Places.{packPlace, viewPlace, PlaceAt, StepAt, stands}
-use Rattle.route.specs.declared.Chosen.{Chosen}
-use Rattle.route.specs.declared.Answer.{Answer}
-use Rattle.route.specs.Plan.{outcome, routed}
+use Rattle.reader.specs.Held.{automatonOf}
+use Rattle.search.specs.declared.space.Space.{Space}
+use Rattle.steps.specs.declared.Stand.{Stand}
+use Rattle.steps.specs.declared.Next.{Next}
+use Rattle.search.specs.Space.{Setting, graphOf, startOf}
+use Rattle.steps.specs.Steps.{Marked}
 
--- The words are those of a search of the table for its goal.
-pub record Found (t : Table) (nodes : ℕ) (ws : List ℕ) : Type 0 where
-  pub is-table : IsTable t
-  pub counted : nodes ≡ nodeCount (automatonOf t)
-  pub few : nodes ≤ mostNodes
-  pub room : BestRoom nodes (t .modes) ws
-  pub near : NearCosts (graphOf t (t .goal)) (startOf t) (table ws)
+-- The words are those of a search of the table for its goal, which is reached, and there are route bytes for its steps.
+pub record WalkReady (t rs : List ℕ) (s : Space) (ws bs : List ℕ) : Type 0 where
+  pub setting : Setting t rs s
+  pub words : 2 * s .nodes ≤ length ws
+  pub near : NearCosts (graphOf t (automatonOf t .goal)) (startOf t) (table ws)
+  pub best : Cost
+  pub is-best : distance (graphOf t (automatonOf t .goal)) (startOf t) ≡ reached best
+  pub room : best .steps ≤ length bs
 
 -- The words behind those of the nodes are untouched.
-pub record RestKept (t : Table) (ws ws′ : List ℕ) : Type 0 where
+pub record RestKept (t ws ws′ : List ℕ) : Type 0 where
   pub rest : drop (2 * nodeCount (automatonOf t)) ws′ ≡ drop (2 * nodeCount (automatonOf t)) ws
   pub kept : length ws′ ≡ length ws
 
--- The answer and the route bytes are those of the definitions, whatever words are cleared afterwards.
-pub record ReadOff (t : Table) (ws rs ws′ rs′ : List ℕ) (r : Answer) : Type 0 where
-  pub is-answer :
-      (vs : List ℕ) → outcome r (cleared (automatonOf t) vs) rs′ ≡ routed (automatonOf t) (answer (automatonOf t) (t .goal)) vs rs
-  pub words : RestKept t ws ws′
-
--- What is lent are the arrays of the table.
-pub record Lends (t : Table) (moves : ℕ) (ceilings rates invariants sources targets prices guards resets : List ℕ) : Type 0 where
-  pub is-table : IsTable t
-  pub moves-are : moves ≡ t .moves
-  pub ceilings-are : ceilings ≡ t .ceilings
-  pub arrays : Arrays t rates invariants sources targets prices guards resets
-  pub few : nodeCount (automatonOf t) ≤ mostNodes
-
--- The words hold the least costs from the start; the goal is reached, and there are route bytes for its steps.
-pub record WalkAt
-    (t : Table) (start : PlaceHeld) (goal moves : ℕ) (ceilings rates invariants sources targets prices guards resets ws rs : List ℕ) : Type 0 where
-  pub lends : Lends t moves ceilings rates invariants sources targets prices guards resets
-  pub begins : start ≡ packPlace (begin (automatonOf t))
-  pub words : 2 * nodeCount (automatonOf t) ≤ length ws
-  pub near : NearCosts (graphOf t goal) (startOf t) (table ws)
-  pub best : Cost
-  pub is-best : distance (graphOf t goal) (startOf t) ≡ reached best
-  pub room : best .steps ≤ length rs
-
 -- The route of the definitions stands in the first route bytes, and the others are as they were.
-pub record WalkDone (t : Table) (goal : ℕ) (best : Cost) (ws rs ws′ rs′ : List ℕ) : Type 0 where
+pub record WalkDone (t ws bs ws′ bs′ : List ℕ) : Type 0 where
+  pub best : Cost
+  pub is-best : distance (graphOf t (automatonOf t .goal)) (startOf t) ≡ reached best
   pub bytes : List ℕ
-  pub is-route : answer (automatonOf t) goal ≡ route (best .charge) bytes
+  pub is-route : answer (automatonOf t) (automatonOf t .goal) ≡ route (best .charge) bytes
   pub counted : length bytes ≡ best .steps
-  pub stored : rs′ ≡ bytes ++ drop (best .steps) rs
+  pub stored : bs′ ≡ bytes ++ drop (best .steps) bs
   pub words : RestKept t ws ws′
 
-abbrev pub WalkReady :
-    PlaceHeld → ℕ → ℕ → List ℕ → List ℕ → List ℕ → List ℕ → List ℕ → List ℕ → List ℕ → List ℕ → List ℕ → List ℕ → Type 0
-WalkReady start goal moves ceilings rates invariants sources targets prices guards resets ws rs =
-    (t : Table) × WalkAt t start goal moves ceilings rates invariants sources targets prices guards resets ws rs
+-- Whether a corner is in the set; and the lowest that is, or the last of four.
+abbrev pub isMarked : ℕ → ℕ → Bool
+isMarked set j = eqb (set / 2 ^ j % 2) 1
 
-abbrev pub Walked :
-    PlaceHeld → ℕ → ℕ → List ℕ → List ℕ → List ℕ → List ℕ → List ℕ → List ℕ → List ℕ → List ℕ → List ℕ → List ℕ → List ℕ → List ℕ → Type 0
-Walked start goal moves ceilings rates invariants sources targets prices guards resets ws rs ws′ rs′ =
-    (t : Table) (w : WalkAt t start goal moves ceilings rates invariants sources targets prices guards resets ws rs)
-    → WalkDone t goal (w .best) ws rs ws′ rs′
+unfoldable pub lowest : ℕ → ℕ
+lowest set = cond (isMarked set 0) 0 (cond (isMarked set 1) 1 (cond (isMarked set 2) 2 3))
 
--- A place from which bytes are tried.
-pub record ChooseAt
-    (t : Table) (s : PlaceHeld) (first moves : ℕ) (ceilings rates invariants sources targets prices guards resets ws : List ℕ) : Type 0 where
-  pub step : StepAt t s moves ceilings rates invariants sources targets prices guards resets
-  pub few : nodeCount (automatonOf t) ≤ mostNodes
-  pub words : 2 * nodeCount (automatonOf t) ≤ length ws
-  pub below : first ≤ 66
+-- A second word that points back to a place, with its first node and its marked corners. No number of steps is as high.
+abbrev pub backPointer : ℕ
+backPointer = 0x8000_0000
 
--- The byte is the least from `first` on whose step leads to a place that stands, and that place; or no byte below 66 is.
-pub record Chooses (t : Table) (s : PlaceHeld) (first steps : ℕ) (ws : List ℕ) (r : Chosen) : Type 0 where
-  pub none-before :
-      (k : ℕ) (z : Place) → first ≤ k → k < r .byte → step (automatonOf t) k (viewPlace s) ≡ some z → stands (automatonOf t) ws z steps ≡ false
-  pub leads : r .byte < 66 → step (automatonOf t) (r .byte) (viewPlace s) ≡ some (viewPlace (r .place))
-  pub held : r .byte < 66 → PlaceAt t (r .place)
-  pub standing : r .byte < 66 → stands (automatonOf t) ws (viewPlace (r .place)) steps ≡ true
+abbrev pub pointer : ℕ → ℕ → ℕ
+pointer first set = backPointer + set * 65536 + first
 
-abbrev pub ChooseReady : PlaceHeld → ℕ → ℕ → List ℕ → List ℕ → List ℕ → List ℕ → List ℕ → List ℕ → List ℕ → List ℕ → List ℕ → Type 0
-ChooseReady s first moves ceilings rates invariants sources targets prices guards resets ws =
-    (t : Table) × ChooseAt t s first moves ceilings rates invariants sources targets prices guards resets ws
+-- It stands at the lowest marked corner of the place behind.
+abbrev pub pointing : ℕ → ℕ → ℕ
+pointing first set = first + lowest set
 
-abbrev pub Choice :
-    PlaceHeld → ℕ → ℕ → ℕ → List ℕ → List ℕ → List ℕ → List ℕ → List ℕ → List ℕ → List ℕ → List ℕ → List ℕ → Chosen → Type 0
-Choice s first steps moves ceilings rates invariants sources targets prices guards resets ws r =
-    (t : Table) → ChooseAt t s first moves ceilings rates invariants sources targets prices guards resets ws → Chooses t s first steps ws r
+-- There are words for the marked corners.
+abbrev pub PruneRoom : ℕ → ℕ → List ℕ → Type 0
+PruneRoom first set ws = (j : ℕ) → Marked set j → 2 * (first + j) < length ws
 
--- The first n bytes of the route lead to the place.
-pub record LedTo (t : Table) (rs : List ℕ) (n : ℕ) (s : PlaceHeld) : Type 0 where
-  pub chained : chain (automatonOf t) (take n rs) ≡ some (viewPlace s)
-  pub held : PlaceAt t s
+-- The marked corners below n became unreached, and no other node.
+pub record PrunedBelow (n first set : ℕ) (ws ws′ : List ℕ) : Type 0 where
+  pub gone : (j : ℕ) → j < n → Marked set j → chargeAt ws′ (first + j) ≡ infinity
+  pub only :
+      (v : ℕ) → (chargeAt ws′ v ≡ chargeAt ws v) ⊎ ((chargeAt ws′ v ≡ infinity) × ((j : ℕ) × Marked set j × (v ≡ first + j)))
+  pub steps : (v : ℕ) → stepsAt ws′ v ≡ stepsAt ws v
+  pub rest : (m : ℕ) → ((j : ℕ) → Marked set j → first + j < m) → drop (2 * m) ws′ ≡ drop (2 * m) ws
+  pub kept : length ws′ ≡ length ws
 
--- The first n bytes of the route are a chain, of fewer steps than there are nodes.
-pub record IsChain (t : Table) (rs : List ℕ) (n : ℕ) : Type 0 where
-  pub last : Place
-  pub chained : chain (automatonOf t) (take n rs) ≡ some last
-  pub there : n ≤ length rs
-  pub few : n < mostNodes
+abbrev pub Pruned : ℕ → ℕ → List ℕ → List ℕ → Type 0
+Pruned first set ws ws′ = PrunedBelow 4 first set ws ws′
 
--- The places from the depth `low` on, up to and without the depth `end`, are kept: that of depth i stands at i % 8.
-pub record Kept (t : Table) (rs : List ℕ) (low end : ℕ) (trail : List PlaceHeld) : Type 0 where
-  pub eight : length trail ≡ 8
-  pub led : (i : ℕ) (none : PlaceHeld) → low ≤ i → i < end → LedTo t rs i (getD trail (i % 8) none)
+pub record AdvanceReady (z : Stand) (r : Next) (ws : List ℕ) : Type 0 where
+  pub there : 2 * pointing (r .first) (r .set) + 1 < length ws
+  pub few : z .first < 65536
+  pub sixteen : z .set < 16
+  pub short : z .steps < 65536
 
-pub record RetraceAt
-    (t : Table) (start : PlaceHeld) (rs : List ℕ) (depth moves : ℕ) (ceilings rates invariants sources targets prices guards resets : List ℕ) : Type 0 where
-  pub lends : Lends t moves ceilings rates invariants sources targets prices guards resets
-  pub begins : start ≡ packPlace (begin (automatonOf t))
-  pub is-chain : IsChain t rs depth
+pub record Advanced (z : Stand) (r : Next) (ws ws′ : List ℕ) (z′ : Stand) : Type 0 where
+  pub words : ws′ ≡ set ws (2 * pointing (r .first) (r .set) + 1) (pointer (z .first) (z .set))
+  pub stand : z′ ≡ record { first = r .first; set = r .set; steps = z .steps + 1; byte = 0 }
 
-abbrev pub RetraceReady :
-    PlaceHeld → List ℕ → ℕ → ℕ → List ℕ → List ℕ → List ℕ → List ℕ → List ℕ → List ℕ → List ℕ → List ℕ → Type 0
-RetraceReady start rs depth moves ceilings rates invariants sources targets prices guards resets =
-    (t : Table) × RetraceAt t start rs depth moves ceilings rates invariants sources targets prices guards resets
+pub record BacktrackReady (z : Stand) (ws : List ℕ) : Type 0 where
+  pub there : 2 * pointing (z .first) (z .set) + 1 < length ws
+  pub room : PruneRoom (z .first) (z .set) ws
+  pub deep : 0 < z .steps
 
--- The last eight places are kept.
-abbrev pub Retraces :
-    PlaceHeld → List ℕ → ℕ → ℕ → List ℕ → List ℕ → List ℕ → List ℕ → List ℕ → List ℕ → List ℕ → List ℕ → List PlaceHeld → Type 0
-Retraces start rs depth moves ceilings rates invariants sources targets prices guards resets r =
-    (t : Table) → RetraceAt t start rs depth moves ceilings rates invariants sources targets prices guards resets
-    → Kept t rs (depth - 7) (depth + 1) r
+pub record Backtracked (z : Stand) (byte : ℕ) (ws ws′ : List ℕ) (z′ : Stand) : Type 0 where
+  pub words : Pruned (z .first) (z .set) ws ws′
+  pub first-is : z′ .first ≡ stepsAt ws (pointing (z .first) (z .set)) % 65536
+  pub set-is : z′ .set ≡ stepsAt ws (pointing (z .first) (z .set)) / 65536 % 16
+  pub steps-are : z′ .steps ≡ z .steps - 1
+  pub byte-is : z′ .byte ≡ byte + 1

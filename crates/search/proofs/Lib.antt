@@ -1,42 +1,24 @@
--- The laws that the functions' proofs cite.
--- Edges, and the corners of a region.
-pub mod Relaxing
-pub mod Charges
-pub mod Offers
-pub mod Sending
-pub mod CornerMoves
-pub mod CornerDelays
--- The classes of nodes.
-pub mod Graphs
-pub mod Sharing
-pub mod SameClass
-pub mod Noting
-pub mod Notes
--- The moves of a region.
-pub mod RowTests
-pub mod Goals
-pub mod Listing
-pub mod MovePass
-pub mod OwnMoves
-pub mod RegionMoves
--- Its waiting.
-pub mod DelayPasses
-pub mod RegionDelays
-pub mod RegionWaits
--- The regions of a class.
-pub mod AroundNode
-pub mod RegionPass
-pub mod ClassPass
--- The words as a whole.
-pub mod Filling
+-- What the proofs of the search share.
+pub mod Settings
+pub mod Spaces
+pub mod Delayed
+pub mod MovesFrom
+-- The edges of waits.
+pub mod WaitEdges
+pub mod WaitRelaxing
+pub mod Waits
+-- The edges of moves.
+pub mod Zeroing
+pub mod OpenMoves
+pub mod Imaging
+pub mod MoveEdges
+pub mod MoveRelaxing
+-- From the first words to those that are left.
+pub mod Seeding
+pub mod FirstNode
+pub mod Settling
+pub mod Keeping
 pub mod Nearest
--- Places.
-pub mod Steps
-pub mod Taking
-pub mod CornerWords
--- The search of all classes.
-pub mod Pendings
-pub mod Parting
-pub mod Spreading
--- And the words before and after it.
-pub mod Finding
+pub mod Searching
+
+-- The steps of a walk.

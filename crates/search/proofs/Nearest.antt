@@ -1,24 +1,15 @@
--- The least cost of a mode's nodes, found node by node; and the words of nodes that are no dearer and no farther, kept node by node.
+-- The least cost of a mode's nodes, found node by node.
 -- Assumes nothing.
-use mathlib.Core.Path.{_≡_, refl, _∙_}
+use mathlib.Core.Path.{_≡_, _∙_}
 use mathlib.Core.Logic.{_≢_, _⊎_, inl, inr}
 use mathlib.Core.List.{List}
-use Prim.Native.Nat.{ℕ, suc, _+_, _*_, _/_, _≤_, _<_}
-use native.Mathlib.Nat.{mul-le-mul-right, suc-mul}
+use Prim.Native.Nat.{ℕ, _+_, _*_, _/_, _≤_, _<_}
 use native.Mathlib.Decide.{ℕ-discrete}
 use native.Mathlib.Omega.{arith}
-use lib.ListN.{length, drop}
-use Rattle.semantics.specs.Order.{Cost, cost}
 use Rattle.semantics.specs.Graph.Path.{infinity, chargeAt, stepsAt}
-use Rattle.semantics.specs.Paths.Words.{stored, stored-length, stored-rest, stored-charge, stored-steps, other-charge, other-steps}
-use Rattle.semantics.specs.Paths.Update.{Blank}
+use Rattle.semantics.specs.Paths.Words.{Blank}
 use Rattle.search.specs.declared.near.Cost.{Cost as CostHeld}
-use Rattle.search.specs.Near.{NearRoom, IsBest, KeptNear}
-
--- The nodes of a mode are nodes.
-pub goal-last : (nodes goal modes : ℕ) → modes * (nodes / modes) ≡ nodes → goal < modes → goal * (nodes / modes) + nodes / modes ≤ nodes
-goal-last nodes goal modes shared h =
-    omega (arith, suc-mul goal (nodes / modes), mul-le-mul-right {m = suc goal} {n = modes} (nodes / modes) h, shared)
+use Rattle.search.specs.Near.{IsBest}
 
 -- The least cost of the nodes from `first` to below v, or infinity twice if none of them is reached.
 pub record Least (ws : List ℕ) (first v charge steps : ℕ) : Type 0 where
@@ -114,92 +105,3 @@ is-best-none nodes mode modes ws r h charge steps = record {
   attained = λ n. absurd (n charge);
   least = λ v i. absurd (omega (arith, i .0));
 }
-
--- Nothing is left to do for the first v nodes, and the words of the others, and those behind the nodes, are the same.
-pub record Keeping (nodes charge steps v : ℕ) (ws ws′ : List ℕ) : Type 0 where
-  pub same :
-      (u : ℕ) → u < v → chargeAt ws u ≤ charge → stepsAt ws u ≤ steps → (chargeAt ws′ u ≡ chargeAt ws u) × (stepsAt ws′ u ≡ stepsAt ws u)
-  pub dropped :
-      (u : ℕ) → u < v → (charge < chargeAt ws u) ⊎ (steps < stepsAt ws u) → (chargeAt ws′ u ≡ infinity) × (stepsAt ws′ u ≡ infinity)
-  pub ahead : (u : ℕ) → v ≤ u → (chargeAt ws′ u ≡ chargeAt ws u) × (stepsAt ws′ u ≡ stepsAt ws u)
-  pub rest : drop (2 * nodes) ws′ ≡ drop (2 * nodes) ws
-  pub kept : length ws′ ≡ length ws
-
--- Before the first node.
-pub keeping-none : (nodes charge steps : ℕ) (ws : List ℕ) → Keeping nodes charge steps 0 ws ws
-keeping-none nodes charge steps ws = record {
-  same = λ u h. absurd (omega arith);
-  dropped = λ u h. absurd (omega arith);
-  ahead = λ u h. (refl, refl);
-  rest = refl;
-  kept = refl;
-}
-
--- The two words of an unreached node.
-abbrev pub blank : Cost
-blank = cost infinity infinity
-
--- One node more.
-module _ (nodes charge steps v : ℕ) (ws ws′ : List ℕ) (r : NearRoom nodes ws) (h : v < nodes) (k : Keeping nodes charge steps v ws ws′) where
-  -- It is dearer or farther.
-  pub keeping-drop :
-      (charge < chargeAt ws′ v) ⊎ (steps < stepsAt ws′ v) → Keeping nodes charge steps (v + 1) ws (stored ws′ v blank)
-  keeping-drop far = record {
-    same = λ u l a b. same u l a b (ℕ-discrete u v);
-    dropped = λ u l f. dropped u l f (ℕ-discrete u v);
-    ahead = λ u l.
-        let q = k .ahead u (omega arith) in
-        (other-charge ws′ v blank u (λ e. omega arith) ∙ q .0, other-steps ws′ v blank u (λ e. omega arith) ∙ q .1);
-    rest = stored-rest ws′ v blank nodes h ∙ k .rest;
-    kept = stored-length ws′ v blank ∙ k .kept;
-  }
-    where
-      room : 2 * v + 1 < length ws′
-      room = omega (arith, r .room, k .kept)
-
-      near : chargeAt ws v ≤ charge → stepsAt ws v ≤ steps → (charge < chargeAt ws′ v) ⊎ (steps < stepsAt ws′ v) → ⊥
-      near a b (inl x) = omega (arith, k .ahead v (omega arith) .0)
-      near a b (inr x) = omega (arith, k .ahead v (omega arith) .1)
-
-      same : (u : ℕ) → u < v + 1 → chargeAt ws u ≤ charge → stepsAt ws u ≤ steps → Dec (u ≡ v)
-          → (chargeAt (stored ws′ v blank) u ≡ chargeAt ws u) × (stepsAt (stored ws′ v blank) u ≡ stepsAt ws u)
-      same u l a b (yes e) = absurd (near (rw e at a) (rw e at b) far)
-      same u l a b (no n) =
-          let q = k .same u (omega arith) a b in
-          (other-charge ws′ v blank u n ∙ q .0, other-steps ws′ v blank u n ∙ q .1)
-
-      dropped : (u : ℕ) → u < v + 1 → (charge < chargeAt ws u) ⊎ (steps < stepsAt ws u) → Dec (u ≡ v)
-          → (chargeAt (stored ws′ v blank) u ≡ infinity) × (stepsAt (stored ws′ v blank) u ≡ infinity)
-      dropped u l f (yes e) = rw e (stored-charge ws′ v blank room, stored-steps ws′ v blank room)
-      dropped u l f (no n) =
-          let q = k .dropped u (omega arith) f in
-          (other-charge ws′ v blank u n ∙ q .0, other-steps ws′ v blank u n ∙ q .1)
-
-  -- It is neither.
-  pub keeping-same : chargeAt ws′ v ≤ charge → stepsAt ws′ v ≤ steps → Keeping nodes charge steps (v + 1) ws ws′
-  keeping-same a b = record {
-    same = λ u l x y. same u l x y (ℕ-discrete u v);
-    dropped = λ u l f. dropped u l f (ℕ-discrete u v);
-    ahead = λ u l. k .ahead u (omega arith);
-    rest = k .rest;
-    kept = k .kept;
-  }
-    where
-      same : (u : ℕ) → u < v + 1 → chargeAt ws u ≤ charge → stepsAt ws u ≤ steps → Dec (u ≡ v)
-          → (chargeAt ws′ u ≡ chargeAt ws u) × (stepsAt ws′ u ≡ stepsAt ws u)
-      same u l x y (yes e) = k .ahead u (omega arith)
-      same u l x y (no n) = k .same u (omega arith) x y
-
-      far : (charge < chargeAt ws v) ⊎ (steps < stepsAt ws v) → ⊥
-      far (inl x) = omega (arith, k .ahead v (omega arith) .0)
-      far (inr x) = omega (arith, k .ahead v (omega arith) .1)
-
-      dropped : (u : ℕ) → u < v + 1 → (charge < chargeAt ws u) ⊎ (steps < stepsAt ws u) → Dec (u ≡ v)
-          → (chargeAt ws′ u ≡ infinity) × (stepsAt ws′ u ≡ infinity)
-      dropped u l f (yes e) = absurd (far (rw e at f))
-      dropped u l f (no n) = k .dropped u (omega arith) f
-
--- All nodes.
-pub keeping-all : (nodes charge steps : ℕ) (ws ws′ : List ℕ) → Keeping nodes charge steps nodes ws ws′ → KeptNear nodes charge steps ws ws′
-keeping-all nodes charge steps ws ws′ k =
-    record { same = k .same; dropped = k .dropped; rest = k .rest; kept = k .kept }

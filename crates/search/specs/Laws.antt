@@ -1,7 +1,5 @@
--- What a caller may conclude from the contracts: the answers by cases, and places along chains with the words of a search.
-pub mod Answers
-pub mod Chains
-pub mod Taking
-pub mod Standing
+-- What a caller may conclude from the contracts.
 pub mod Shares
+pub mod NodeRegion
+pub mod Answers
 pub mod Goal

@@ -1,13 +1,15 @@
 -- What the contracts of the search cite.
 pub mod Outcome
-pub mod Places
+pub mod Space
 -- And those of its private functions.
-pub mod Rows
+pub mod Exploring
+pub mod Room
+pub mod Halves
 pub mod Edges
-pub mod Regions
-pub mod Classes
-pub mod Spread
+pub mod Waits
+pub mod Moves
+pub mod Images
 pub mod Near
-pub mod Seeding
--- What a route cites of them.
+pub mod Finding
+-- What a caller cites of them.
 pub mod Laws

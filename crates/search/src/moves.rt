@@ -1,90 +1,68 @@
-// The edges of the moves from the corners of a region.
-ghost use Prim.Native.Nat.{_≤_};
-ghost use lib.ListN.{length, take};
-ghost use Rattle.search.specs.Classes.{mostMoves, OwnMoves};
-ghost use Rattle.search.specs.Regions.{MovesReady, MovesSpread};
-use crate::classes;
-use crate::conditions;
-use crate::corners;
+// The moves that can be made, and where they lead.
+ghost use mathlib.Core.Path.{_≡_};
+ghost use Prim.Native.Nat.{_<_};
+ghost use lib.ListN.{getD};
+ghost use Rattle.reader.specs.Meaning.{namedTimers};
+ghost use Rattle.search.specs.Images.{LastAtMost};
+ghost use Rattle.search.specs.Moves.{zeroed, NextReady, NextMove};
+use reader::table;
+use reader::table::TABLE;
 use regions::Region;
-use regions::nodes;
+use rules::RULES;
 
-const MOST_MOVES: usize = 64;
-
-// The numbers of some moves, in the first `count` entries.
-pub struct Own {
-    pub count: usize,
-    pub list: [u8; MOST_MOVES],
-}
-
-// The moves from a mode.
-pub fn moves_from(sources: &[u8], moves: usize, mode: usize) -> Own
-    requires { ⌜ (moves ≤ mostMoves) × (moves ≤ length (now sources)) ⌝ }
-    ensures { λ r. ⌜ (r .count ≤ moves) × OwnMoves (now (sources .entry)) moves mode (take (r .count) (r .list)) ⌝ }
+// The places of the timers after the resets of a byte.
+fn zeroed(halves: [u8; Region::MOST_TIMERS], resets: u8) -> [u8; Region::MOST_TIMERS]
+    ensures { λ r. ⌜ r ≡ zeroed (namedTimers resets) halves ⌝ }
 {
-    let mut count: usize = 0;
-    let mut list = [0u8; MOST_MOVES];
-    for e in 0..moves {
-        if sources[e] as usize == mode {
-            list[count] = e as u8;
-            count += 1;
+    let mut after = halves;
+    for timer in 0..Region::MOST_TIMERS {
+        if (resets >> timer) % 2 == 1 {
+            after[timer] = 0;
         }
     }
-    Own { count, list }
+    after
 }
 
-// The moves whose numbers stand in `own`, all from the region's mode. "A move is passed over at the first of its conditions, or the target's,
-// that fails".
-pub fn spread_moves(
-    words: &mut [u32],
-    pending: &mut [u32],
-    nodes: usize,
-    goal: usize,
-    block: usize,
-    low: u32,
+// "A move is passed over at the first of its conditions, or the target's, that fails": the first, from the move `from` on along the moves of its
+// mode, that is not passed over, or NONE. A row of the rules has two conditions for each timer: a lowest place and one that is not reached.
+pub fn next_move(
+    table: &[u8; TABLE],
+    rules: &[u8; RULES],
+    halves: [u8; Region::MOST_TIMERS],
     from: usize,
-    region: Region,
-    ceilings: [u8; Region::MOST_TIMERS],
-    own: &[u8],
-    targets: &[u8],
-    prices: &[u16],
-    guards: &[u8],
-    resets: &[u8],
-    invariants: &[u8],
-)
-    requires { ⌜
-        MovesReady nodes goal block from region ceilings (now own) (now targets) (now prices) (now guards) (now resets) (now invariants)
-        (now words) (now pending)
-        ⌝ }
-    ensures { λ _. ⌜
-        MovesSpread nodes goal block low from region ceilings (now (own .entry)) (now (targets .entry)) (now (prices .entry))
-        (now (guards .entry)) (now (resets .entry)) (now (invariants .entry)) (now (words .entry)) (now (pending .entry)) (now (words .exit))
-        (now (pending .exit))
-        ⌝ }
+) -> usize
+    requires { ⌜ NextReady (now table) (now rules) halves from ⌝ }
+    ensures { λ r. ⌜ NextMove (now (table .entry)) (now (rules .entry)) halves from r ⌝ }
 {
-    let top = region.top as usize;
-    let count = own.len();
-    'moves: for k in 0..count {
-        let e = own[k] as usize;
-        for i in 0..6 {
-            let byte = guards[6 * e + i];
-            if !conditions::holds(region, i, byte) {
+    let mut next = from;
+    'moves: while next < rules::NONE {
+        let e = next;
+        next = rules::after(rules, e);
+        for timer in 0..Region::MOST_TIMERS {
+            if !rules::inside(rules, rules::GUARDS + e, timer, halves[timer]) {
                 continue 'moves;
             }
         }
-        let moved = region.reset_all(resets[e]);
-        let target = targets[e] as usize;
-        for i in 0..6 {
-            let byte = invariants[6 * target + i];
-            if !conditions::holds(moved, i, byte) {
+        let target = table::target(table, e);
+        let after = zeroed(halves, table::resets(table, e));
+        for timer in 0..Region::MOST_TIMERS {
+            if !rules::inside(rules, target, timer, after[timer]) {
                 continue 'moves;
             }
         }
-        let to = nodes::node_of(target, moved, 0, ceilings);
-        let indices = moved.prices;
-        let last = moved.top as usize;
-        let price = prices[e] as u32;
-        let least = corners::spread_move(words, nodes, from, top, indices, last, to, price, low);
-        classes::note(pending, goal, block, target, to, least);
+        return e;
     }
+    rules::NONE
+}
+
+// The last of the prices 0 to `last` that is at most the bound. The prices rise from 0.
+pub fn last_at_most(prices: [u32; Region::MOST_CORNERS], last: usize, bound: usize) -> usize
+    requires { ⌜ (last < 4) × (getD prices 0 0 ≡ 0) ⌝ }
+    ensures { λ r. ⌜ LastAtMost prices last bound r ⌝ }
+{
+    let mut i = last;
+    while bound < prices[i] as usize {
+        i -= 1;
+    }
+    i
 }

@@ -16,7 +16,8 @@ pub fn best(words: &[u32], nodes: usize, goal: usize, modes: usize) -> Cost
     let mut charge = INFINITY;
     let mut steps = INFINITY;
     if goal < modes {
-        let share = nodes / modes;
+        // The unit's core divides in 32 bits.
+        let share = (nodes as u32 / modes as u32) as usize;
         let first = goal * share;
         for v in first..first + share {
             let c = words[2 * v];

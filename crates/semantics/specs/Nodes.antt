@@ -1,4 +1,4 @@
--- The numbers of nodes: each node has its own number below E, each number below E its node, and delay and linger lead to higher numbers.
+-- The numbers of nodes: each node has its own number below E, and each number below E its node.
 -- What nodes are and how they are numbered.
 pub mod Node
 -- Theorems:
@@ -6,4 +6,3 @@ pub mod Radix
 pub mod Cells
 pub mod Number
 pub mod Regions
-pub mod Rising

@@ -16,16 +16,11 @@ pub mod Greedy
 -- Tables in words:
 pub mod Words
 pub mod Sum
-pub mod Sound
-pub mod Update
-pub mod Seed
 -- Found forwards from a node, and the nodes on best paths from it.
 pub mod Turned
+pub mod Lower
 pub mod Explored
-pub mod Ahead
 pub mod Near
-pub mod Spread
-pub mod Passes
 pub mod Settling
 pub mod Priced
 -- The distance as a function.

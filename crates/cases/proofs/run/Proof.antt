@@ -1,38 +1,66 @@
--- `cases::run` meets its contract.
+-- `cases::run` meets its contract. Lines begin within what was looked at.
 -- Assumes nothing.
-use mathlib.Core.Path.{sym}
-use borrow.Author.Needs.{needs}
-use lib.Seq.{length-take-le}
+use mathlib.Core.Logic.{⊎-elim}
+use Prim.Native.Nat.{_-_, _≤_}
+use native.Mathlib.Omega.{arith}
 use Rattle.cases.proofs.run.Statement.{statement}
 use Rattle.cases.proofs.run.Tie as tie
 
-slice-aggregate-text : tie.Need-slice-aggregate-text
-slice-aggregate-text c = search needs
+abbrev Inv-loop : tie.InvT-loop
+Inv-loop script from₀ at₀ at-end from at = (from ≤ at) × (at ≤ at-end)
 
-text-requires : tie.Need-text-requires
-text-requires c κs = search needs
+abbrev μ-loop : tie.MeasureT-loop
+μ-loop script from₀ at₀ at-end from at = at-end - at
 
-returns : tie.Need-returns
-returns c = search needs
+loop-holds : tie.Need-loop-holds Inv-loop μ-loop
+loop-holds c = omega arith
 
-slice-aggregate-run-line : tie.Need-slice-aggregate-run-line
-slice-aggregate-run-line c =
-    let start = c .before .before .before in
-    sym (length-take-le (start .args .held) (start .args .line .now) (c .before .if1 .left))
+shared-slice-read-if1 : tie.Need-shared-slice-read-if1 Inv-loop μ-loop
+shared-slice-read-if1 c = omega arith
 
-run-line-requires : tie.Need-run-line-requires
-run-line-requires c κs = search needs
+sub-run-line : tie.Need-sub-run-line Inv-loop μ-loop
+sub-run-line c = omega arith
 
-returns-2 : tie.Need-returns-2
-returns-2 c = search needs
+part-run-line-start : tie.Need-part-run-line-start Inv-loop μ-loop
+part-run-line-start c = omega arith
+
+part-run-line-end : tie.Need-part-run-line-end Inv-loop μ-loop
+part-run-line-end c = omega arith
+
+run-line-requires : tie.Need-run-line-requires Inv-loop μ-loop
+run-line-requires c κs = tt
+
+add-from : tie.Need-add-from Inv-loop μ-loop
+add-from c = omega arith
+
+add-at : tie.Need-add-at Inv-loop μ-loop
+add-at c = omega (arith, c .before .before .loop-test .taken)
+
+loop-less : tie.Need-loop-less Inv-loop μ-loop
+loop-less c = omega (arith, c .before .before .loop-test .taken)
+
+loop-again : tie.Need-loop-again Inv-loop μ-loop
+loop-again c =
+    let less = c .before .before .loop-test .taken in
+    ⊎-elim (λ w. omega (arith, less)) (λ w. omega (arith, less)) (c .if1 .came)
+
+returns : tie.Need-returns Inv-loop μ-loop
+returns c = tt
 
 pub run-spec : {M : Type 1} → statement M
 run-spec =
     tie.close
     (tie.spec
-    slice-aggregate-text
-    text-requires
-    returns
-    slice-aggregate-run-line
+    Inv-loop
+    μ-loop
+    loop-holds
+    shared-slice-read-if1
+    sub-run-line
+    part-run-line-start
+    part-run-line-end
     run-line-requires
-    returns-2)
+    add-from
+    add-at
+    loop-less
+    loop-again
+    returns)

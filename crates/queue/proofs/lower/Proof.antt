@@ -36,7 +36,7 @@ mul-words-3 c = omega (arith, c .slice-known2 .given (2 * c .before .before .arg
 
 add-words : tie.Need-add-words
 add-words c =
-    omega (arith, c .before .before .pre .offer .fits, c .slice-known2 .given (2 * c .before .before .args .node + 1))
+    omega (arith, c .before .before .pre .relax .fits, c .slice-known2 .given (2 * c .before .before .args .node + 1))
 
 mul-words-4 : tie.Need-mul-words-4
 mul-words-4 c = search needs
@@ -48,13 +48,13 @@ mul-words-5 : tie.Need-mul-words-5
 mul-words-5 c = search needs
 
 slice-write-words-2 : tie.Need-slice-write-words-2
-slice-write-words-2 c = simp length-set (omega (arith, c .before .before .pre .offer .there, c .before .before .pre .offer .words))
+slice-write-words-2 c = simp length-set (omega (arith, c .before .before .pre .relax .there, c .before .before .pre .relax .queue .words))
 
 raise-requires : tie.Need-raise-requires
 raise-requires c κs =
     let s = c .before .before .before in
     let a = s .args in
-    (cost-words (a .nodes) (a .node) (a .charge) (a .steps) (now (a .words)) (s .pre), s .pre .offer .there)
+    (cost-words (a .nodes) (a .node) (a .charge) (a .steps) (now (a .words)) (s .pre), s .pre .relax .there)
 
 returns : tie.Need-returns
 returns c =

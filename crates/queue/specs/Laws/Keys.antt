@@ -3,11 +3,10 @@
 use mathlib.Core.Path.{_≡_}
 use mathlib.Core.Logic.{inl, inr}
 use mathlib.Core.List.{List}
-use Prim.Native.Nat.{ℕ, suc, _≤_, _<_}
+use Prim.Native.Nat.{ℕ, _≤_, _<_}
 use native.Mathlib.Decide.{decLt}
 use native.Mathlib.Omega.{arith}
 use Rattle.semantics.specs.Order.{Cost, cost, _≼_, _≺_}
-use Rattle.semantics.specs.Graph.Path.{Edge, along}
 use Rattle.queue.specs.Queue.{keyOf, key}
 
 -- Keys of different nodes differ.
@@ -29,8 +28,3 @@ key-cost a b u v fits h e = at (decLt (a .charge) (b .charge))
     at : Dec (a .charge < b .charge) → a ≼ b
     at (yes less) = inl less
     at (no more) = inr (omega arith, omega arith)
-
--- What an edge from a settled node offers is not settled.
-pub key-along :
-    (e : Edge) (c : Cost) (u v : ℕ) → u < 65536 → suc (keyOf (c .charge) (c .steps) u) ≤ keyOf (along e c .charge) (along e c .steps) v
-key-along e c u v h = omega arith

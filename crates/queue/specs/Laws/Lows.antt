@@ -95,9 +95,6 @@ module _ (n : ℕ) (ws : List ℕ) where
   pub lows-steps : (v : ℕ) → v < n → stepsAt (lows n ws) v ≡ stepsAt ws v % 65536
   lows-steps v h = odd-entry n ws (2 * v + 1) v refl h
 
-  pub lows-steps-below : (v : ℕ) → v < n → stepsAt (lows n ws) v < 65536
-  lows-steps-below v h = omega (arith, lows-steps v h)
-
   pub lows-set-charge : (v x : ℕ) → v < n → lows n (set ws (2 * v) x) ≡ set (lows n ws) (2 * v) x
   lows-set-charge v x h = even-set n ws (2 * v) v x refl h
 

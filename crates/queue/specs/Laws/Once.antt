@@ -113,11 +113,11 @@ module _ (nodes v : ℕ) (ws ws′ : List ℕ) where
               high-open upto (stored (lows nodes ws) v (cost charge steps)) v
               (omega (
                 arith,
-                key-stored (lows nodes ws) v charge steps (omega (arith, l .offer .words .room, l .offer .there, lows-length nodes ws)),
+                key-stored (lows nodes ws) v charge steps (omega (arith, l .relax .queue .words .room, l .relax .there, lows-length nodes ws)),
               ))
               ∙ sym
               (high-open upto (lows nodes ws) v
-              (omega (arith, key-less charge steps (chargeAt (lows nodes ws) v) (stepsAt (lows nodes ws) v) v (l .offer .fits) (l .less))))
+              (omega (arith, key-less charge steps (chargeAt (lows nodes ws) v) (stepsAt (lows nodes ws) v) v (l .relax .fits) (l .less))))
       at u (no n) =
           let c = other-charge (lows nodes ws) v (cost charge steps) u n in
           let k = key-other (lows nodes ws) v charge steps u n in

@@ -28,6 +28,15 @@ getD-zeros (x ∷ l) k (suc i) = getD-zeros l k i
 pub getD-pad : (n : ℕ) (l : List ℕ) (i : ℕ) → getD (pad n l) i 0 ≡ getD l i 0
 getD-pad n l i = getD-zeros l (n - length l) i
 
+-- The first three entries of an array of four with at most three in use.
+first-three :
+    (l m : List ℕ) → length l ≤ 3 → (getD (pad 4 l ++ m) 0 0 ∷ getD (pad 4 l ++ m) 1 0 ∷ getD (pad 4 l ++ m) 2 0 ∷ []) ≡ pad 3 l
+first-three [] m h = refl
+first-three (x ∷ []) m h = refl
+first-three (x ∷ y ∷ []) m h = refl
+first-three (x ∷ y ∷ z ∷ []) m h = refl
+first-three (x ∷ y ∷ z ∷ u ∷ l) m h = absurd (omega arith)
+
 -- What every entry of a list has, and 0, is had by whatever is read from the list.
 pub getD-all : (D : ℕ → Type 0) (l : List ℕ) → ((c : ℕ) → List·Memᴰ c l → D c) → D 0 → (i : ℕ) → D (getD l i 0)
 getD-all D [] h z i = z
@@ -115,9 +124,11 @@ module _ (t : List ℕ) (h : IsTable t) where
   unfolding fieldsOf
   ceilings-are = refl
 
-  pub ceiling-at : (x : ℕ) → x < timers (automatonOf t) → getD (automatonOf t .ceilings) x 0 ≡ getD t (4 + x) 0
-  ceiling-at x k =
-      ap (λ (l : List ℕ). getD l x 0) ceilings-are ∙ getD-take (getD t 1 0) (drop 4 t) x 0 (omega (arith, timer-count)) ∙ getD-drop 4 t x 0
+  -- The bytes of all ceilings.
+  pub ceilings-held : (getD t 4 0 ∷ getD t 5 0 ∷ getD t 6 0 ∷ []) ≡ pad 3 (automatonOf t .ceilings)
+  unfolding held
+  ceilings-held =
+      ap (λ (u : List ℕ). getD u 4 0 ∷ getD u 5 0 ∷ getD u 6 0 ∷ []) (h .holds) ∙ first-three (fieldsOf t .ceilings) _ (h .range .timers-range .1)
 
   -- Prices and rates are within the bound.
   pub amounts-within : PricesWithin (automatonOf t) mostPrice

@@ -5,15 +5,14 @@ use mathlib.Core.List.{List, [], _∷_, _++_}
 use Prim.Native.Nat.{ℕ, zero, suc, _+_, _*_, _-_, _/_, _%_, _≤_}
 use native.Mathlib.Nat.{mod-one}
 use native.Mathlib.Omega.{arith}
-use lib.ListN.{length, getD, take, replicate}
+use lib.ListN.{length, take, replicate}
+use lib.Seq.{take-append-seam}
+use Rattle.semantics.specs.Automaton.{timers}
 use Rattle.semantics.specs.NodeCount.{cornerCount, factor, cellCount, nodeCount}
 use Rattle.semantics.specs.Nodes.Node.{cellNumber, cellAt}
 use Rattle.semantics.specs.Nodes.Cells.{cellAt-length}
-use Rattle.reader.specs.Meaning.{automaton}
-use Rattle.reader.specs.Opened.{IsTable, held, fields}
+use Rattle.reader.specs.Held.{automatonOf, IsTable}
 use Rattle.reader.specs.Theorems.Access.{getD-pad, getD-all}
-use Rattle.reader.specs.Theorems.Opened.{mode-count, timer-count}
-use Rattle.reader.specs.declared.opened.Table.{Table}
 use Rattle.regions.specs.Held.{mostTimers, pad}
 use Rattle.regions.specs.Nodes.{mostCeiling, CeilingsFew, Padded}
 
@@ -67,21 +66,24 @@ module _ (n : ℕ) (ceilings : List ℕ) (p : Padded n ceilings) where
       ap (λ (l : List ℕ). cellAt l i) p ∙ at-behind (take n ceilings) (mostTimers - length (take n ceilings)) i
       ∙ ap (λ (k : ℕ). cellAt (take n ceilings) i ++ replicate (mostTimers - k) 0) (sym (cellAt-length (take n ceilings) i))
 
--- The ceilings of a table.
-module _ (t : Table) (h : IsTable t) where
-  pub table-padded : Padded (t .timers) (t .ceilings)
-  unfolding held fields
-  table-padded = ap (λ (u : Table). u .ceilings) (h .holds)
+-- The ceilings of a table, as `reader::table::ceilings` gives them.
+module _ (t : List ℕ) (h : IsTable t) where
+  pub table-ceilings : take (timers (automatonOf t)) (pad mostTimers (automatonOf t .ceilings)) ≡ automatonOf t .ceilings
+  table-ceilings = take-append-seam (automatonOf t .ceilings) (replicate (mostTimers - timers (automatonOf t)) 0)
 
-  pub table-few : CeilingsFew (t .ceilings)
-  unfolding fields
+  pub table-padded : Padded (timers (automatonOf t)) (pad mostTimers (automatonOf t .ceilings))
+  table-padded = ap (pad mostTimers) (sym table-ceilings)
+
+  pub table-few : CeilingsFew (pad mostTimers (automatonOf t .ceilings))
   table-few i =
-      let few = getD-all (λ c. c ≤ mostCeiling) (take (t .timers) (t .ceilings)) (λ c m. h .range .ceilings-range c m .1) (omega arith) i in
-      rw (ap (λ (l : List ℕ). getD l i 0) table-padded ∙ getD-pad mostTimers (take (t .timers) (t .ceilings)) i) few
+      let few = getD-all (λ c. c ≤ mostCeiling) (automatonOf t .ceilings) (λ c m. h .range .ceilings-range c m .1) (omega arith) i in
+      rw (getD-pad mostTimers (automatonOf t .ceilings) i) few
 
-  -- E by the table's own fields.
-  pub table-nodes : t .modes * cellCount (t .ceilings) * cornerCount (t .timers) 1 ≡ nodeCount (automaton (fields t))
-  unfolding nodeCount fields
+  -- E by what the table's accessors give.
+  pub table-nodes :
+      length (automatonOf t .modes) * cellCount (pad mostTimers (automatonOf t .ceilings)) * cornerCount (timers (automatonOf t)) 1
+      ≡ nodeCount (automatonOf t)
+  unfolding nodeCount
   table-nodes =
-      ap (λ (m : ℕ). m * cellCount (t .ceilings) * cornerCount (t .timers) 1) (mode-count t h)
-      ∙ ap₂ (λ (c n : ℕ). length (automaton (fields t) .modes) * c * cornerCount n 1) (count-padded (t .timers) (t .ceilings) table-padded) (timer-count t h)
+      ap (λ (c : ℕ). length (automatonOf t .modes) * c * cornerCount (timers (automatonOf t)) 1)
+      (count-padded (timers (automatonOf t)) (pad mostTimers (automatonOf t .ceilings)) table-padded ∙ ap cellCount table-ceilings)

@@ -6,7 +6,6 @@ use native.Mathlib.Omega.{arith}
 use lib.ListN.{getD}
 use Rattle.reader.specs.Held.{IsTable}
 use Rattle.reader.specs.Theorems.Holding.{accepted-table}
-use Rattle.reader.specs.Theorems.Opened.{opened-table}
 use Rattle.route.proofs.Planning.{outcome-keeps, planned-refused, planned-accepted}
 use Rattle.route.proofs.plan.Statement.{statement}
 use Rattle.route.proofs.plan.Tie as tie
@@ -31,14 +30,8 @@ enum-known-verdict c = search needs
 enum-told : tie.Need-enum-told
 enum-told c = search needs
 
-opened-requires : tie.Need-opened-requires
-opened-requires c κs = accepted (c .before)
-
 plan-table-requires : tie.Need-plan-table-requires
-plan-table-requires c κs =
-    let o = c .before .before in
-    let told = o .before .before in
-    opened-table (told .before .before .read .last .1 .0) (accepted told) (o .opened .result) (o .opened .ensures)
+plan-table-requires c κs = accepted (c .before .before .before)
 
 returns : tie.Need-returns
 returns c =
@@ -60,8 +53,7 @@ same-length-2 c = search needs
 returns-2 : tie.Need-returns-2
 returns-2 c =
     let q = c .before .before .before .before in
-    let o = q .before .before .before in
-    let told = o .before .before in
+    let told = q .before .before .before .before in
     let p = told .before .before in
     let s = p .before .before .before .before .before .args in
     let bytes = s .bytes .now in
@@ -69,8 +61,8 @@ returns-2 c =
     let rs = s .route .now in
     let e =
     q .plan-table .ensures
-    ∙ planned-accepted bytes (p .read .last .1 .0) (p .read .result) (p .read .ensures) ws rs (small p) (told .enum-told .given .1) (o .opened .result) (o .opened .ensures) in
-    (e, outcome-keeps bytes ws (q .plan-table .last .1 .0) rs (q .plan-table .last .1 .1 .0) (q .plan-table .result) e)
+    ∙ planned-accepted bytes (p .read .last .1 .0) (p .read .result) (p .read .ensures) ws rs (small p) (told .enum-told .given .1) in
+    (e, outcome-keeps bytes ws (q .plan-table .last .0) rs (q .plan-table .last .1 .0) (q .plan-table .result) e)
 
 pub plan-spec : {M : Type 1} → statement M
 plan-spec =
@@ -79,7 +71,6 @@ plan-spec =
     read-requires
     enum-known-verdict
     enum-told
-    opened-requires
     plan-table-requires
     returns
     same-length

@@ -6,11 +6,12 @@ use mathlib.Core.Bool.{Bool, true, false, cond}
 use mathlib.Core.Logic.{_≢_, _⊎_, inl, inr}
 use mathlib.Core.List.{List, _++_}
 use Prim.Native.Nat.{ℕ, zero, suc, _+_, _*_, _/_, _≤_, _<_}
-use native.Mathlib.Nat.{zero-add, suc-mul, mul-le-mul-right}
+use native.Mathlib.Nat.{zero-add}
 use native.Mathlib.Omega.{arith}
 use borrow.Author.Tests.{eqb-true, eqb-false}
 use lib.Dec.{eqb}
-use lib.ListN.{length, getD, drop, length-append, length-drop}
+use lib.ListN.{length, getD, drop, replicate, length-append, length-drop}
+use lib.Seq.{drop-at}
 use Rattle.semantics.specs.Answer.{countFrom}
 use Rattle.semantics.specs.Corners.Corner.{flatMap}
 use Rattle.semantics.specs.Order.{Cost, cost, _≼_}
@@ -18,36 +19,30 @@ use Rattle.semantics.specs.Graph.Path.{Graph, Target, Closed, WeightsWithin, En
 use Rattle.semantics.specs.NodeCount.{nodeCount}
 use Rattle.semantics.specs.Graph.Distance.{distance, entryWords}
 use Rattle.semantics.specs.Graph.Near.{turned, near, nearWords}
+use Rattle.semantics.specs.Automaton.{Automaton}
 use Rattle.semantics.specs.Graph.CornerGraph.{startNode, cornerGraph}
 use Rattle.semantics.specs.Nodes.Number.{nodeAt-node}
-use Rattle.semantics.specs.Paths.Words.{table-unreached, table-holds, reached-words}
-use Rattle.semantics.specs.Paths.Update.{Blank}
-use Rattle.semantics.specs.Paths.Ahead.{anyCharge}
+use Rattle.semantics.specs.Paths.Words.{Blank, table-unreached, table-holds, reached-words}
 use Rattle.semantics.specs.Paths.Found.{wordsAt, words-scattered}
-use Rattle.semantics.specs.Paths.Near.{BestTarget, words-near, near-best}
+use Rattle.semantics.specs.Paths.Near.{BestTarget, words-near}
 use Rattle.semantics.specs.Answers.Graph.{graph-nodes, graph-closed, graph-weights}
-use Rattle.semantics.specs.Answers.Modes.{graph-goal}
+use Rattle.semantics.specs.Answers.Modes.{graph-goal, graph-block}
 use Rattle.semantics.specs.Answers.Walk.{NearCosts}
-use Rattle.reader.specs.declared.opened.Table.{Table}
 use Rattle.reader.specs.Fields.{mostPrice}
-use Rattle.reader.specs.Opened.{IsTable}
-use Rattle.reader.specs.Theorems.Opened.{table-proper, mode-count, counts, amounts-within}
+use Rattle.reader.specs.Held.{automatonOf, IsTable}
+use Rattle.reader.specs.Theorems.Access.{table-proper, amounts-within}
 use Rattle.regions.specs.Nodes.{mostNodes}
 use Rattle.search.specs.declared.Searched.{Searched}
 use Rattle.search.specs.declared.Searched.the-variants.{Nodes, Refused}
 use Rattle.search.specs.declared.near.Cost.{Cost as CostHeld}
-use Rattle.search.specs.Regions.{automatonOf, graphOf, startOf, share}
-use Rattle.search.specs.Near.{BestRoom, InMode, IsBest}
-use Rattle.search.specs.Outcome.{answered, searched}
-use Rattle.search.specs.Laws.Answers.{answer-nodes, answer-fits, searched-refused, searched-nodes}
-use Rattle.search.specs.Laws.Shares.{share-quotient, nodes-shared, mode-block, start-below}
-
--- The entry that a struct holds: unreached is infinity.
-abbrev pub costEntry : CostHeld → Entry
-costEntry r = cond (eqb (r .charge) infinity) unreached (reached (cost (r .charge) (r .steps)))
+use Rattle.search.specs.Space.{graphOf, startOf}
+use Rattle.search.specs.Near.{costEntry, BestRoom, InMode, IsBest}
+use Rattle.search.specs.Outcome.{answered, searched, cleared}
+use Rattle.search.specs.Laws.Answers.{answer-nodes, answer-fits, searched-refused, searched-nodes, cleared-nodes}
+use Rattle.search.specs.Laws.Shares.{share, share-quotient, shared-out, share-below, nodes-shared, some-modes, start-below, few-modes}
 
 -- What is unreached has infinity as its charge.
-pub entry-none : (r : CostHeld) → costEntry r ≡ unreached → r .charge ≡ infinity
+entry-none : (r : CostHeld) → costEntry r ≡ unreached → r .charge ≡ infinity
 entry-none r = go (eqb (r .charge) infinity) refl
   where
     go : (b : Bool) → eqb (r .charge) infinity ≡ b → cond b unreached (reached (cost (r .charge) (r .steps))) ≡ unreached → r .charge ≡ infinity
@@ -55,7 +50,7 @@ entry-none r = go (eqb (r .charge) infinity) refl
     go false e q = let z : _≡_ {A = ℕ} 0 1 = cc in absurd (omega arith)
 
 -- What is reached has the struct's charge and steps.
-pub entry-some : (r : CostHeld) (c : Cost) → costEntry r ≡ reached c → (r .charge ≢ infinity) × (r .charge ≡ c .charge) × (r .steps ≡ c .steps)
+entry-some : (r : CostHeld) (c : Cost) → costEntry r ≡ reached c → (r .charge ≢ infinity) × (r .charge ≡ c .charge) × (r .steps ≡ c .steps)
 entry-some r c = go (eqb (r .charge) infinity) refl
   where
     go :
@@ -65,10 +60,11 @@ entry-some r c = go (eqb (r .charge) infinity) refl
     go false e q = (eqb-false (r .charge) infinity e, cc, cc)
 
 -- The nodes of the goal are the targets.
-module _ (t : Table) (ok : IsTable t) (goal nodes modes : ℕ) (counted : nodes ≡ nodeCount (automatonOf t)) (modes-are : modes ≡ t .modes) where
+module _ (t : List ℕ) (ok : IsTable t) (goal nodes modes : ℕ) (counted : nodes ≡ nodeCount (automatonOf t))
+    (modes-are : modes ≡ length (automatonOf t .modes)) where
   -- How many nodes a mode has.
-  quotient : nodes / modes ≡ share t
-  quotient = rw (counted, modes-are) (share-quotient t ok)
+  quotient : nodes / modes ≡ share (automatonOf t)
+  quotient = rw (counted, modes-are) (share-quotient (automatonOf t) (some-modes t ok))
 
   -- A target is a node of the goal.
   target-in : (v : ℕ) → v < graphOf t goal .nodes → Target (graphOf t goal) v → InMode nodes goal modes v
@@ -76,21 +72,20 @@ module _ (t : Table) (ok : IsTable t) (goal nodes modes : ℕ) (counted : nodes 
       let a = automatonOf t in
       let mode = graph-goal a goal v .0 x in
       let below : v < nodeCount a = rw (graph-nodes a goal) at h in
-      let there : goal < t .modes = omega (arith, nodeAt-node a v below .mode, mode-count t ok, mode) in
-      let block = mode-block t ok goal goal there v h .0 mode in
+      let there : goal < length (a .modes) = omega (arith, nodeAt-node a v below .mode, mode) in
+      let block = graph-block a goal goal there v h .0 mode in
       rw quotient (omega (arith, modes-are), block .0, block .1)
 
   -- And a node of the goal is a target.
   in-target : (v : ℕ) → InMode nodes goal modes v → (v < graphOf t goal .nodes) × Target (graphOf t goal) v
   in-target v i =
       let a = automatonOf t in
-      let there : goal < t .modes = omega (arith, i .0, modes-are) in
-      let from : goal * share t ≤ v = rw quotient at (i .1) in
-      let to : v < goal * share t + share t = rw quotient at (i .2) in
-      let few : suc goal * share t ≤ t .modes * share t = mul-le-mul-right (share t) there in
-      let below : v < nodeCount a = omega (arith, to, few, suc-mul goal (share t), nodes-shared t ok) in
+      let there : goal < length (a .modes) = omega (arith, i .0, modes-are) in
+      let from : goal * share a ≤ v = rw quotient at (i .1) in
+      let to : v < goal * share a + share a = rw quotient at (i .2) in
+      let below : v < nodeCount a = omega (arith, to, share-below goal (length (a .modes)) (share a) there, nodes-shared a) in
       let inside : v < graphOf t goal .nodes = rw (graph-nodes a goal) below in
-      (inside, graph-goal a goal v .1 (mode-block t ok goal goal there v inside .1 (from, to)))
+      (inside, graph-goal a goal v .1 (graph-block a goal goal there v inside .1 (from, to)))
 
   -- The least cost of the goal's nodes is the least entry of the targets.
   pub best-target : (ws : List ℕ) (r : CostHeld) → IsBest nodes goal modes ws r → BestTarget (graphOf t goal) (table ws) (costEntry r)
@@ -131,28 +126,50 @@ near-length : (g : Graph) (s : ℕ) → length (nearWords g s) ≡ 2 * g .nodes
 unfolding nearWords
 near-length g s = words-length (λ v. near (distance g s) (distance (turned g s) v)) (g .nodes) 0
 
--- A search does not change the number of the words.
-pub searched-length : (t : Table) (l : ℕ) (ws : List ℕ) → length (searched (automatonOf t) l ws) ≡ length ws
-searched-length t l ws = at (answered (automatonOf t) (length ws)) refl
-  where
-    at : (r : Searched) → answered (automatonOf t) (length ws) ≡ r → length (searched (automatonOf t) l ws) ≡ length ws
-    at (Refused k) e = ap length (sym (searched-refused (automatonOf t) l ws k e))
-    at (Nodes n) e =
-        let a = automatonOf t in
-        let f = answer-fits a (length ws) n e in
+-- What a search and clearing change: no more than the first 2E words.
+module _ (a : Automaton) (l : ℕ) (ws : List ℕ) where
+  -- A search was made, so that the nodes are n.
+  module _ (n : ℕ) (e : answered a (length ws) ≡ Nodes n) where
+    new-length : length (nearWords (cornerGraph a l) (startNode a)) ≡ 2 * n
+    new-length =
+        near-length (cornerGraph a l) (startNode a)
+        ∙ ap (λ (k : ℕ). 2 * k) (graph-nodes a l ∙ sym (answer-fits a (length ws) n e .counted))
+
+    made-length : length (searched a l ws) ≡ length ws
+    made-length =
         ap length (sym (searched-nodes a l ws n e))
         ∙ omega (
           arith,
           length-append (nearWords (cornerGraph a l) (startNode a)) (drop (2 * n) ws),
-          near-length (cornerGraph a l) (startNode a),
-          graph-nodes a l,
+          new-length,
           length-drop (2 * n) ws,
-          f .counted,
-          f .room,
+          answer-fits a (length ws) n e .room,
         )
 
+    searched-behind : drop (2 * n) (searched a l ws) ≡ drop (2 * n) ws
+    searched-behind =
+        ap (drop (2 * n)) (sym (searched-nodes a l ws n e)) ∙ drop-at (nearWords (cornerGraph a l) (startNode a)) (drop (2 * n) ws) (2 * n) new-length
+
+  -- The number of the words stays.
+  searched-length : length (searched a l ws) ≡ length ws
+  searched-length = at (answered a (length ws)) refl
+    where
+      at : (r : Searched) → answered a (length ws) ≡ r → length (searched a l ws) ≡ length ws
+      at (Refused k) e = ap length (sym (searched-refused a l ws k e))
+      at (Nodes n) e = made-length n e
+
+  -- So clearing after a search, and after what leaves the words behind as they are, leaves what clearing before it would have left.
+  pub cleared-searched :
+      (n : ℕ) → answered a (length ws) ≡ Nodes n → (ws′ : List ℕ) → drop (2 * n) ws′ ≡ drop (2 * n) (searched a l ws)
+      → length ws′ ≡ length (searched a l ws) → cleared a ws′ ≡ cleared a ws
+  cleared-searched n e ws′ rest kept =
+      let f = answer-fits a (length ws) n e in
+      let again : answered a (length ws′) ≡ Nodes n = ap (answered a) (kept ∙ searched-length) ∙ e in
+      sym (cleared-nodes a ws′ n again (f .counted)) ∙ ap (λ (v : List ℕ). replicate (2 * n) 0 ++ v) (rest ∙ searched-behind n e)
+      ∙ cleared-nodes a ws n e (f .counted)
+
 -- The graph of a table: what the theorems on what is near ask of it.
-module _ (t : Table) (ok : IsTable t) (l : ℕ) where
+module _ (t : List ℕ) (ok : IsTable t) (l : ℕ) where
   -- Its edges lead to nodes.
   pub goal-closed : Closed (graphOf t l)
   goal-closed = graph-closed (automatonOf t) l (table-proper t ok)
@@ -166,7 +183,7 @@ module _ (t : Table) (ok : IsTable t) (l : ℕ) where
   goal-inside = rw (graph-nodes (automatonOf t) l) (start-below t ok)
 
   -- No path without loops is charged as much as the bound that stands for none.
-  pub goal-small : nodeCount (automatonOf t) ≤ mostNodes → graphOf t l .nodes * mostPrice < anyCharge
+  pub goal-small : nodeCount (automatonOf t) ≤ mostNodes → graphOf t l .nodes * mostPrice < infinity
   goal-small few = omega (arith, graph-nodes (automatonOf t) l)
 
   module _ (ws : List ℕ) (few : nodeCount (automatonOf t) ≤ mostNodes) (room : 2 * nodeCount (automatonOf t) ≤ length ws) where
@@ -181,14 +198,6 @@ module _ (t : Table) (ok : IsTable t) (l : ℕ) where
     searched-near v h =
         words-near (graphOf t l) (startOf t) goal-closed goal-inside mostPrice goal-light (goal-small few) (searched (automatonOf t) l ws)
         (drop (2 * nodeCount (automatonOf t)) ws) is-found v h
-
-    -- The least cost of the goal's nodes is that of the route.
-    pub searched-best :
-        (nodes modes : ℕ) → nodes ≡ nodeCount (automatonOf t) → modes ≡ t .modes → (r : CostHeld)
-        → IsBest nodes l modes (searched (automatonOf t) l ws) r → costEntry r ≡ distance (graphOf t l) (startOf t)
-    searched-best nodes modes counted modes-are r best =
-        near-best (graphOf t l) (startOf t) goal-closed goal-inside mostPrice goal-light (goal-small few) (table (searched (automatonOf t) l ws)) searched-near
-        (costEntry r) (best-target t ok l nodes modes counted modes-are (searched (automatonOf t) l ws) r best)
 
     -- The two words of a node are those of its entry.
     searched-words :
@@ -214,10 +223,11 @@ module _ (t : Table) (ok : IsTable t) (l : ℕ) where
 
     -- So the goal's cost can be read off them.
     pub searched-room :
-        (nodes modes : ℕ) → nodes ≡ nodeCount (automatonOf t) → modes ≡ t .modes → BestRoom nodes modes (searched (automatonOf t) l ws)
+        (nodes modes : ℕ) → nodes ≡ nodeCount (automatonOf t) → modes ≡ length (automatonOf t .modes) → BestRoom nodes modes (searched (automatonOf t) l ws)
     searched-room nodes modes counted modes-are = record {
-      words = record { few = omega (arith, few, counted); room = omega (arith, room, counted, searched-length t l ws) };
-      some = omega (arith, counts t ok, modes-are);
-      shared = rw (counted, modes-are) (ap (λ (k : ℕ). t .modes * k) (share-quotient t ok) ∙ sym (nodes-shared t ok));
+      words = record { few = omega (arith, few, counted); room = omega (arith, room, counted, searched-length (automatonOf t) l ws) };
+      some = omega (arith, some-modes t ok, modes-are);
+      modes-few = omega (arith, few-modes t ok, modes-are);
+      shared = rw (counted, modes-are) (shared-out (automatonOf t) (some-modes t ok));
       blank = λ v h. searched-blank v (omega (arith, h, counted, graph-nodes (automatonOf t) l));
     }

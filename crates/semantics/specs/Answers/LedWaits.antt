@@ -1,10 +1,9 @@
--- Where the tight edges of waiting lead, from a place with any prices: those of a delay by whether r0 is empty, or by prices that are the indices of
--- the corners, and those of linger.
+-- Where the tight edges of waiting lead: those of a delay by prices that are the indices of the corners, and those of linger.
 -- Assumes nothing.
 use mathlib.Core.Path.{_≡_, refl, sym, ap, subst, _∙_}
 use mathlib.Core.Bool.{true, false, cond}
 use mathlib.Core.Logic.{_↔_, _⊎_, inl, inr}
-use mathlib.Core.List.{List·Memᴰ·head, List·Memᴰ·eq-of-singleton}
+use mathlib.Core.List.{List·Memᴰ·eq-of-singleton}
 use mathlib.Core.Option.{some}
 use Prim.Native.Nat.{ℕ, suc, _+_, _≤_, _<_}
 use native.Mathlib.Omega.{arith}
@@ -16,16 +15,16 @@ use Rattle.semantics.specs.Region.{PricedRegion, top, noZero}
 use Rattle.semantics.specs.Order.{Cost, cost}
 use Rattle.semantics.specs.Graph.Path.{Edge, Entry}
 use Rattle.semantics.specs.Chain.{Place, step}
-use Rattle.semantics.specs.Corners.Edges.{Edge as CornerEdge, passEdges, dropEdges, edges, SamePlace}
+use Rattle.semantics.specs.Corners.Edges.{Edge as CornerEdge, passEdges, edges, SamePlace}
 use Rattle.semantics.specs.Graph.CornerGraph.{numberOf}
 use Rattle.semantics.specs.Bounds.Prices.{price}
 use Rattle.semantics.specs.Bounds.Stays.{Admits}
 use Rattle.semantics.specs.Bounds.Steps.{rateAt, step-view}
 use Rattle.semantics.specs.Bounds.Shapes.{shape-admits}
-use Rattle.semantics.specs.Bounds.Flow.{keeps, passes, pass-keeps, pass-passes, pass-cases, drop-cases}
+use Rattle.semantics.specs.Bounds.Flow.{keeps, passes, pass-keeps, pass-passes, pass-cases}
 use Rattle.semantics.specs.Answers.Places.{IsPlace, corner-top}
 use Rattle.semantics.specs.Answers.Graph.{number-alike}
-use Rattle.semantics.specs.Answers.Waiting.{delayedTo, Indexed, after-same, after-step, delay-edges, edge-delay, delay-edge}
+use Rattle.semantics.specs.Answers.Waiting.{delayedTo, Indexed, after-same, after-step, edge-delay, delay-edge}
 use Rattle.semantics.specs.Answers.WaitingNodes.{delayed-place, linger-same, linger-edges}
 use Rattle.semantics.specs.Answers.Marks.{Grows, Led, corners-differ}
 use Rattle.semantics.specs.Answers.Led.{LedAlong, led-along, along-led}
@@ -85,58 +84,7 @@ module _ (a : Automaton) (ok : Proper a) (l : ℕ) (d : ℕ → Entry) (n : ℕ)
 
 module _ (a : Automaton) (ok : Proper a) (l : ℕ) (d : ℕ → Entry) (n : ℕ) {p : Place} (h : IsPlace a p) (S : ℕ → Type 0)
     (among : (j : ℕ) → S j → j < length (p .region .prices)) {z : Place} (f : step a 64 p ≡ some z) where
-  -- A delay takes each corner but the first to the one before it, where r0 is empty,
-  pub led-arrive :
-      noZero (p .region) ≡ true → (i : ℕ)
-      → Led a l d p n S 64 z i ↔ (S (suc i) × Grows d n 0 (numberOf a p (suc i)) (numberOf a (delayedTo p) i))
-  led-arrive e i = (
-    λ t.
-        let o = led-along a ok l d n h S among 64 f i t in
-        let c = drop-cases (o .corner) (o .edge) (rw (drops (o .corner)) at (o .listed)) in
-        from o (c .0) (c .1) (c .2),
-    λ o.
-        along-led a ok l d n h S among 64 f i (record {
-          corner = suc i;
-          marked = o .0;
-          edge = keeps i;
-          listed = rw (drops (suc i)) (List·Memᴰ·head refl);
-          leads = refl;
-          grows = rw number (o .1);
-        }),
-  )
-    where
-      drops : (j : ℕ) → edges a 64 p j ≡ dropEdges j
-      drops j = delay-edges a p j ∙ rw e refl
-
-      number : numberOf a z i ≡ numberOf a (delayedTo p) i
-      number = delayed-number a p z f i
-
-      from :
-          (o : LedAlong a d p n S 64 z i) (i′ : ℕ) → o .corner ≡ suc i′ → o .edge ≡ keeps i′
-          → S (suc i) × Grows d n 0 (numberOf a p (suc i)) (numberOf a (delayedTo p) i)
-      from o i′ x y =
-          let same : i′ ≡ i = sym (ap (λ (e : CornerEdge). e .corner) y) ∙ o .leads in
-          let j : o .corner ≡ suc i = x ∙ ap suc same in
-          (subst S j (o .marked), rw (j, y, number) at (o .grows))
-
-  -- and where r0 is not empty each corner stays, and the first also goes to the new last one, at the rate.
-  pub led-leave :
-      noZero (p .region) ≡ false → (i : ℕ)
-      → Led a l d p n S 64 z i
-      ↔ ((S i × Grows d n 0 (numberOf a p i) (numberOf a (delayedTo p) i))
-      ⊎ ((i ≡ suc (top (p .region))) × S 0 × Grows d n (rateAt a p) (numberOf a p 0) (numberOf a (delayedTo p) i)))
-  led-leave e i = (
-    λ t. rw number at (led-pass a ok l d n h S among 64 f (suc (top (p .region))) (rateAt a p) out i t),
-    λ o. pass-led a ok l d n h S among 64 f (suc (top (p .region))) (rateAt a p) out i (rw number o),
-  )
-    where
-      out : (j : ℕ) → edges a 64 p j ≡ passEdges (suc (top (p .region))) (rateAt a p) j
-      out j = delay-edges a p j ∙ rw e refl
-
-      number : numberOf a z i ≡ numberOf a (delayedTo p) i
-      number = delayed-number a p z f i
-
-  -- A delay once more, with the indices of the corners as prices: each corner is led to from the one that its price says, at the rate where it is new.
+  -- A delay, with the indices of the corners as prices: each corner is led to from the one that its price says, at the rate where it is new.
   pub led-delay :
       Indexed (p .region) → (i : ℕ) → i ≤ top (delayedTo p .region)
       → Led a l d p n S 64 z i

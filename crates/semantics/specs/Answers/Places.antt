@@ -22,7 +22,7 @@ use Rattle.semantics.specs.Regions.Lengths.{prices-top, leave-timers, ar
 use Rattle.semantics.specs.Regions.WellFormed.{leave-well-formed, arrive-well-formed}
 use Rattle.semantics.specs.Corners.Lists.{mem-getD}
 use Rattle.semantics.specs.Corners.Complete.{corner-listed, IsCorner, corners-sound}
-use Rattle.semantics.specs.Nodes.Number.{nodeNumber-below, nodeAt-number, number-nodeAt}
+use Rattle.semantics.specs.Nodes.Number.{nodeNumber-below, nodeAt-number}
 use Rattle.semantics.specs.Nodes.Regions.{within-cell}
 use Rattle.semantics.specs.Bounds.Steps.{rateAt, movedBy, Stepped, leaves, arrives, lingers, idles, moves}
 use Rattle.semantics.specs.Bounds.Shapes.{shape-linger, shape-well-formed}
@@ -140,11 +140,6 @@ module _ (a : Automaton) where
 
     pub node-index : x .corner .index < length (nodePlace x .region .prices)
     node-index = rw node-prices (node-corner .inside)
-
-  -- Every number below E is that of a corner of a place.
-  pub node-number :
-      (v : ℕ) → v < nodeCount a → numberOf a (nodePlace (nodeAt (a .ceilings) v)) (nodeAt (a .ceilings) v .corner .index) ≡ v
-  node-number v h = number-nodeAt a v h
 
   module _ (ok : Proper a) where
     -- Resets lower whole parts to 0 and keep the others.

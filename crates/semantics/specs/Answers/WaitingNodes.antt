@@ -21,11 +21,10 @@ use Rattle.semantics.specs.Regions.Lengths.{leave-top, arrive-top, delay
 use Rattle.semantics.specs.Regions.Groups.{top-pos}
 use Rattle.semantics.specs.Regions.WellFormed.{delay-well-formed}
 use Rattle.semantics.specs.Nodes.Regions.{within-cell}
-use Rattle.semantics.specs.Nodes.Rising.{delay-node-rises}
 use Rattle.semantics.specs.Bounds.Flow.{pass-passes, pass-cases}
 use Rattle.semantics.specs.Bounds.Steps.{rateAt, Stepped, leaves, arrives, lingers, idles, moves, step-view, view-step}
 use Rattle.semantics.specs.Bounds.Shapes.{shape-sym, shape-linger}
-use Rattle.semantics.specs.Answers.Places.{IsPlace, corner-top}
+use Rattle.semantics.specs.Answers.Places.{IsPlace}
 use Rattle.semantics.specs.Answers.Graph.{label-below, step-listed, numbered-alike, graph-edges}
 use Rattle.semantics.specs.Answers.Waiting.{delayedTo, place-edge}
 
@@ -47,15 +46,6 @@ delayed-place a ok p h t =
       cell = within-cell (delay 0 (p .region)) w (a .ceilings) (delay-timers (p .region) 0 .whole ∙ h .cell .sized) t;
       in-modes = h .in-modes;
     }
-
--- A delay leads to higher nodes than all corners of the place.
-pub delay-above :
-    (a : Automaton) (p : Place) → IsPlace a p → (i j : ℕ) → i ≤ top (delayedTo p .region) → j ≤ top (p .region)
-    → numberOf a p j < numberOf a (delayedTo p) i
-delay-above a p h i j b c =
-    delay-node-rises a (p .mode) (p .region) (h .well-formed) (h .cell .sized) 0 i j
-    (corner-top (p .region) (h .well-formed) j .1 c)
-    (corner-top (delay 0 (p .region)) (delay-well-formed (p .region) (h .well-formed) 0) i .1 b)
 
 -- Linger: where an edge leads.
 record Last (r : PricedRegion) (rate j : ℕ) (e : CornerEdge) : Type 0 where

@@ -1,4 +1,4 @@
--- Within a cell delay and linger lead only to higher numbers, and the corners of a region have numbers in a row.
+-- The corners of a region have numbers in a row.
 -- Assumes nothing.
 use mathlib.Core.Path.{_≡_, ap, _∙_, sym, subst}
 use mathlib.Core.Logic.{⊎-elim}
@@ -7,14 +7,10 @@ use Prim.Native.Nat.{ℕ, _+_, _<_, _≤_}
 use native.Mathlib.Nat.{zero-add}
 use native.Mathlib.Omega.{arith}
 use lib.ListN.{length, getD, length-map, List·getD-map}
-use Rattle.semantics.specs.Region.{PricedRegion, WellFormed, count, top, leave}
+use Rattle.semantics.specs.Region.{PricedRegion, WellFormed, count}
 use Rattle.semantics.specs.Answer.{countFrom}
 use Rattle.semantics.specs.Corners.Corner.{Corner, cornerOf, flatMap, weakOrders, regionCorners, zeroCorners, openCorners, corners, cornerNumber}
-use Rattle.semantics.specs.Regions.Count.{count-map-suc}
 use Rattle.semantics.specs.Regions.Cases.{zero-cases}
-use Rattle.semantics.specs.Regions.Groups.{top-pos}
-use Rattle.semantics.specs.Regions.Lengths.{prices-top}
-use Rattle.semantics.specs.Regions.WellFormed.{leave-well-formed}
 use Rattle.semantics.specs.Corners.Lists.{length-countFrom, getD-countFrom}
 use Rattle.semantics.specs.Corners.Piece.{Piece, piece-append, piece-right, piece-flatMap}
 use Rattle.semantics.specs.Corners.Complete.{zeroOrder, openOrder, zero-order, open-order, open-corners}
@@ -82,18 +78,3 @@ module _ (r : PricedRegion) (w : WellFormed r) where
       (λ z. let o = open-numbers r w z in omega (arith, o .2 j h, o .2 0 (w .priced)))
       (λ z. let o = zero-numbers r w z in omega (arith, o .2 j h, o .2 0 (w .priced)))
       (zero-cases r)
-
-  -- Delay within the cell leads from any corner of the region to a higher number.
-  pub leave-rises :
-      (rate : ℕ) → 0 < count 0 (r .group) → (i j : ℕ) → j < length (r .prices) → i < length (leave rate r .prices)
-      → cornerNumber (length (r .whole)) (cornerOf r j) < cornerNumber (length (r .whole)) (cornerOf (leave rate r) i)
-  unfolding leave
-  leave-rises rate z i j h k =
-      let o = zero-numbers r w z in
-      let p = open-numbers (leave rate r) (leave-well-formed r w rate z) (count-map-suc (r .group)) in
-      omega (arith, o .1, o .2 j h, p .1, p .2 i k)
-
-  -- Linger's edge from corner 0 to corner k of the same region, where r0 is empty.
-  pub linger-rises :
-      count 0 (r .group) ≡ 0 → cornerNumber (length (r .whole)) (cornerOf r 0) < cornerNumber (length (r .whole)) (cornerOf r (top r))
-  linger-rises z = omega (arith, number-index (top r) (omega (arith, prices-top r (w .priced))), top-pos r w z)

@@ -2,14 +2,11 @@
 -- whole part is lower and one is higher.
 -- Assumes nothing.
 use mathlib.Core.Path.{_≡_, refl, ap, ap₂, _∙_}
-use mathlib.Core.Bool.{Bool, true, false, cond}
 use mathlib.Core.List.{List, [], _∷_}
-use Prim.Native.Nat.{ℕ, zero, suc, _+_, _*_, _/_, _%_, _<_, _≤_}
-use native.Mathlib.Nat.{not-suc-le-zero, le-of-suc-le-suc, mod-lt, div-add-mod', mul-le-mul-right, suc-mul, le-refl}
+use Prim.Native.Nat.{ℕ, zero, suc, _+_, _*_, _/_, _%_, _<_}
+use native.Mathlib.Nat.{not-suc-le-zero, le-of-suc-le-suc, mod-lt, div-add-mod'}
 use native.Mathlib.Omega.{arith}
-use lib.Dec.{eqb}
 use lib.ListN.{length, getD}
-use Rattle.semantics.specs.Region.{count, risen}
 use Rattle.semantics.specs.NodeCount.{factor, cellCount}
 use Rattle.semantics.specs.Nodes.Node.{IsCell, cellNumber, cellAt}
 use Rattle.semantics.specs.Nodes.Radix.{pair-below, quotient-below, pair-quotient, pair-remainder}
@@ -48,34 +45,3 @@ cellAt-cell cs i = record { sized = cellAt-length cs i; below = below cs i }
     below [] i t h = absurd (not-suc-le-zero h)
     below (c ∷ cs) i zero h = mod-lt i {m = factor c} (omega arith)
     below (c ∷ cs) i (suc t) h = below cs (i / factor c) t (le-of-suc-le-suc h)
-
--- The timers of group k come to the next whole minute: no whole part is lower, and where the group has a timer one is higher.
-risen-number : (k : ℕ) (cs gs ws : List ℕ) → cellNumber cs ws ≤ cellNumber cs (risen k gs ws)
-risen-number k [] gs ws = le-refl _
-risen-number k (c ∷ cs) [] ws = le-refl _
-risen-number k (c ∷ cs) (g ∷ gs) [] = le-refl _
-risen-number k (c ∷ cs) (g ∷ gs) (w ∷ ws) = go (mul-le-mul-right (factor c) (risen-number k cs gs ws)) (eqb g k)
-  where
-    go :
-        cellNumber cs ws * factor c ≤ cellNumber cs (risen k gs ws) * factor c → (b : Bool)
-        → cellNumber cs ws * factor c + w ≤ cellNumber cs (risen k gs ws) * factor c + cond b (suc w) w
-    go h true = omega arith
-    go h false = omega arith
-
-pub risen-rises :
-    (k : ℕ) (cs gs ws : List ℕ) → length gs ≡ length ws → length ws ≡ length cs → 0 < count k gs
-    → cellNumber cs ws < cellNumber cs (risen k gs ws)
-risen-rises k cs [] ws p q h = absurd (omega arith)
-risen-rises k [] (g ∷ gs) ws p q h = absurd (omega arith)
-risen-rises k (c ∷ cs) (g ∷ gs) [] p q h = absurd (omega arith)
-risen-rises k (c ∷ cs) (g ∷ gs) (w ∷ ws) p q h = go (risen-number k cs gs ws) (risen-rises k cs gs ws (omega arith) (omega arith)) (eqb g k) h
-  where
-    next : List ℕ
-    next = risen k gs ws
-
-    go :
-        cellNumber cs ws ≤ cellNumber cs next → (0 < count k gs → cellNumber cs ws < cellNumber cs next) → (b : Bool)
-        → 0 < cond b (suc (count k gs)) (count k gs)
-        → cellNumber cs ws * factor c + w < cellNumber cs next * factor c + cond b (suc w) w
-    go l s true h = omega (arith, mul-le-mul-right (factor c) l)
-    go l s false h = omega (arith, mul-le-mul-right (factor c) (s h), suc-mul (cellNumber cs ws) (factor c))

@@ -5,10 +5,7 @@ use Prim.Native.Nat.{ℕ, zero, suc, _+_, _*_, _/_, _%_, _<_}
 use native.Mathlib.Nat.{mul-le-mul-right, suc-mul, mul-zero, mul-add-div-right, mul-add-mod-self-right, div-eq-of-lt, mod-eq-of-lt, add-zero, div-lt-iff-lt-mul}
 use native.Mathlib.Omega.{arith}
 
--- A higher first digit makes a higher number, whatever the second.
-pub pair-rises : (k : ℕ) {a c b : ℕ} (d : ℕ) → a < c → b < k → a * k + b < c * k + d
-pair-rises k {a} {c} {b} d h l = omega (arith, mul-le-mul-right k h, suc-mul a k)
-
+-- A first digit below m makes a number below m * k, whatever the second.
 pub pair-below : (k : ℕ) {a m b : ℕ} → a < m → b < k → a * k + b < m * k
 pair-below k {a} {m} {b} h l = omega (arith, mul-le-mul-right k h, suc-mul a k)
 

@@ -7,7 +7,7 @@ use mathlib.Core.List.{List, [], _∷_}
 use Prim.Native.Nat.{ℕ, _<_}
 use native.Mathlib.Omega.{arith}
 use Rattle.semantics.specs.Order.{Cost, cost, _≼_, _≺_}
-use Rattle.semantics.specs.Graph.Path.{Edge, Graph, Leaves, Target, Closed, IsPath, costOf, HasCost, Least, Entry, unreached, reached, Within, Relaxed}
+use Rattle.semantics.specs.Graph.Path.{Edge, Graph, Leaves, Target, IsPath, costOf, HasCost, Least, Entry, unreached, reached, Within, Relaxed}
 use Rattle.semantics.specs.Graph.Near.{turn, turned}
 use Rattle.semantics.specs.Paths.Cost.{cost-same, cost-antisymm, cost-trans, cost-fewer, cost-weaken, same-less, less-trans, not-both}
 use Rattle.semantics.specs.Paths.Distance.{within-cost}

@@ -11,8 +11,7 @@ use Rattle.semantics.specs.Corners.Corner.{flatMap}
 use Rattle.semantics.specs.Order.{Cost}
 use Rattle.semantics.specs.Graph.Path.{Entry, unreached, reached, infinity, chargeAt, stepsAt, table}
 use Rattle.semantics.specs.Graph.Distance.{entryWords}
-use Rattle.semantics.specs.Paths.Words.{table-unreached, table-holds, reached-words, unreached-words}
-use Rattle.semantics.specs.Paths.Update.{Blank}
+use Rattle.semantics.specs.Paths.Words.{Blank, table-unreached, table-holds, reached-words, unreached-words}
 
 -- The two words of node v.
 abbrev pub wordsAt : List ℕ → ℕ → List ℕ

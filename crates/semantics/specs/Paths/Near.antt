@@ -8,22 +8,18 @@ use Prim.Native.Nat.{ℕ, _+_, _*_, _-_, _≤_, _<_}
 use native.Mathlib.Nat.{zero-add, mul-le-mul-right}
 use native.Mathlib.Omega.{arith}
 use lib.Dec.{leb}
-use lib.ListN.{length, drop}
 use borrow.Author.Tests.{le-leb, lt-leb}
 use Rattle.semantics.specs.Order.{Cost, cost, _≼_, _≺_}
-use Rattle.semantics.specs.Graph.Path.{Edge, Graph, Target, Closed, WeightsWithin, IsPath, costOf, HasCost, Least, Entry, unreached, reached, Within, along, table}
+use Rattle.semantics.specs.Graph.Path.{infinity, Edge, Graph, Target, Closed, WeightsWithin, IsPath, costOf, HasCost, Least, Entry, unreached, reached, Within, along, table}
 use Rattle.semantics.specs.Graph.Distance.{distance, entryWords}
 use Rattle.semantics.specs.Graph.Near.{turned, near, nearWords}
 use Rattle.semantics.specs.Paths.Cost.{cost-same, cost-antisymm, cost-trans, cost-both, cost-total, less-trans}
 use Rattle.semantics.specs.Paths.Distance.{within-cost}
 use Rattle.semantics.specs.Paths.Least.{no-less-cost, least-charge, least-reached}
-use Rattle.semantics.specs.Paths.Words.{reached-words, unreached-words}
-use Rattle.semantics.specs.Paths.Update.{Blank}
 use Rattle.semantics.specs.Paths.Turned.{plus, plus-none, plus-start, plus-along, turned-nodes, turned-closed, turned-light, turned-start, turned-more, turned-then}
 use Rattle.semantics.specs.Paths.Explored.{Explored, path-cost, explored-least}
 use Rattle.semantics.specs.Paths.UpTo.{distance-least}
-use Rattle.semantics.specs.Paths.Found.{wordsAt, entry-words, words-entry, words-gathered, words-scattered}
-use Rattle.semantics.specs.Paths.Ahead.{anyCharge}
+use Rattle.semantics.specs.Paths.Found.{wordsAt, words-entry, words-scattered}
 
 -- b is the least entry of the targets.
 pub record BestTarget (g : Graph) (d : ℕ → Entry) (b : Entry) : Type 0 where
@@ -148,15 +144,9 @@ module _ (g : Graph) (s : ℕ) (closed : Closed g) (inside : s < g .nodes) where
         at unreached q = best-none q ∙ sym q
         at (reached B) q = best-there B (distance-least g closed .least s B inside q) ∙ sym q
 
-module _ (g : Graph) (s : ℕ) (closed : Closed g) (inside : s < g .nodes) (w : ℕ) (light : WeightsWithin g w) (small : g .nodes * w < anyCharge) where
-  -- A least charge from s into the targets is below the bound that none reaches.
-  least-small : (B : Cost) → Least g s B → B .charge < anyCharge
-  least-small B l =
-      let fewer : g .nodes - 1 ≤ g .nodes = omega arith in
-      omega (arith, small, least-charge g closed s inside B l w light, mul-le-mul-right w fewer)
-
+module _ (g : Graph) (s : ℕ) (closed : Closed g) (inside : s < g .nodes) (w : ℕ) (light : WeightsWithin g w) (small : g .nodes * w < infinity) where
   -- And so is that of a way from s.
-  way-small : (v : ℕ) (c : Cost) → v < g .nodes → Least (turned g s) v c → c .charge < anyCharge
+  way-small : (v : ℕ) (c : Cost) → v < g .nodes → Least (turned g s) v c → c .charge < infinity
   way-small v c h l =
       let charge : c .charge ≤ (g .nodes - 1) * w =
       rw (turned-nodes g s) at (least-charge (turned g s) (turned-closed g s) v (rw (turned-nodes g s) h) c l w (turned-light g s w light)) in
@@ -244,16 +234,6 @@ module _ (g : Graph) (s : ℕ) (closed : Closed g) (inside : s < g .nodes) (w : 
     -- As far as they are as near as that, the entries are the least costs from s.
     pub found-near : (v : ℕ) → v < g .nodes → near b (d v) ≡ near (distance g s) (distance (turned g s) v)
     found-near v h = near-entry v h ∙ ap (λ (x : Entry). near x (distance (turned g s) v)) found-best
-
-  -- Words with those entries are the words of a search.
-  pub near-words :
-      (ws : List ℕ) → 2 * g .nodes ≤ length ws → ((v : ℕ) → v < g .nodes → table ws v ≡ near (distance g s) (distance (turned g s) v))
-      → ((v : ℕ) → v < g .nodes → Blank ws v) → ws ≡ nearWords g s ++ drop (2 * g .nodes) ws
-  unfolding nearWords
-  near-words ws room entries blank =
-      words-gathered (λ v. near (distance g s) (distance (turned g s) v)) (g .nodes) 0 ws room
-      (λ v h. entry-words ws v (blank v h) (near (distance g s) (distance (turned g s) (0 + v)))
-      (entries v h ∙ ap (λ (u : ℕ). near (distance g s) (distance (turned g s) u)) (sym (zero-add v))))
 
   -- And the words of a search have them.
   pub words-near :

@@ -10,8 +10,8 @@ use Rattle.semantics.specs.Order.{Cost, cost, _≼_, _≺_}
 use Rattle.semantics.specs.Graph.Path.{Edge, Graph, Leaves, Target, HasCost, Entry, unreached, reached, Within, along}
 use Rattle.semantics.specs.Graph.Near.{turn, turned}
 use Rattle.semantics.specs.Paths.Cost.{cost-trans, cost-weaken, cost-both}
-use Rattle.semantics.specs.Paths.Sound.{Lower, relaxed-kept, relaxed-loop}
-use Rattle.semantics.specs.Paths.Turned.{turned-nodes, turned-target, turned-more}
+use Rattle.semantics.specs.Paths.Lower.{Lower, relaxed-kept, relaxed-loop}
+use Rattle.semantics.specs.Paths.Turned.{turned-nodes, turned-more}
 use Rattle.semantics.specs.Paths.Explored.{RelaxedFrom, Beyond, Explored}
 use Rattle.semantics.specs.Paths.Near.{BestTarget, TargetWithin}
 

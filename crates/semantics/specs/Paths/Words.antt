@@ -19,6 +19,10 @@ pub record HoldsCost (ws : List ℕ) (v : ℕ) (c : Cost) : Type 0 where
   pub charge : chargeAt ws v ≡ c .charge
   pub steps : stepsAt ws v ≡ c .steps
 
+-- If node v is unreached, both of its words say so.
+abbrev pub Blank : List ℕ → ℕ → Type 0
+Blank ws v = chargeAt ws v ≡ infinity → stepsAt ws v ≡ infinity
+
 module _ (ws : List ℕ) (v : ℕ) where
   pub table-unreached : chargeAt ws v ≡ infinity → table ws v ≡ unreached
   unfolding table

@@ -1,43 +1,21 @@
--- `cases::chains::follow` meets its contract. The prices are at most 255 for each step made.
+-- `cases::chains::follow` meets its contract.
 -- Assumes nothing.
 use mathlib.Core.Path.{refl}
-use Prim.Native.Nat.{_+_, _-_, _≤_}
+use Prim.Native.Nat.{_-_, _≤_}
 use native.Mathlib.Omega.{arith}
-use borrow.Author.Tests.{not-false}
-use Rattle.cases.proofs.Standing.{Stands, stands-start, stands-ready, stands-step, stands-words}
+use Rattle.cases.specs.Kept.{OnChain}
+use Rattle.cases.proofs.Steps.{fewer-steps}
 use Rattle.cases.proofs.chains.follow.Statement.{statement}
 use Rattle.cases.proofs.chains.follow.Tie as tie
 
 abbrev Inv-loop : tie.InvT-loop
-Inv-loop table words steps ceilings place₀ i₀ t10 t11 i-end place i = (i ≤ i-end) × Stands table i place
+Inv-loop table words numbers end place₀ i₀ place i = (i ≤ 1024) × OnChain table (1025 - i) (place .mode) (place .region)
 
 abbrev μ-loop : tie.MeasureT-loop
-μ-loop table words steps ceilings place₀ i₀ t10 t11 i-end place i = i-end - i
-
--- The chain begins.
-begun : (c : tie.After-start Inv-loop μ-loop) → Stands (c .before .before .before .before .args .table) 0 (c .start .result)
-begun c =
-    let start = c .before .before .before .before in
-    stands-start (start .args .table) (start .pre .0 .is-table) (c .start .result) (c .start .ensures)
-
--- Where a turn of the loop comes from.
-abbrev origin : tie.At-loop Inv-loop μ-loop → tie.Start Inv-loop μ-loop
-origin c = c .before .before .before .before .before .before .before .before
-
--- Where the step of a turn leads.
-stepped :
-    (c : tie.Else2 Inv-loop μ-loop)
-    → (let loop = c .before .before .before .before .before .before .before .before in
-    Stands (origin loop .args .table) (loop .loop .i + 1) (c .before .before .next-place .result .place))
-stepped c =
-    let loop = c .before .before .before .before .before .before .before .before in
-    let start = origin loop in
-    let made = c .before .before .next-place in
-    stands-step (start .args .table) (start .pre .0 .is-table) (loop .loop .place) (loop .loop .i) _ (made .result) (loop .loop .inv .1) (made .ensures)
-    (not-false _ (c .if2 .left))
+μ-loop table words numbers end place₀ i₀ place i = 1024 - i
 
 start-requires : tie.Need-start-requires Inv-loop μ-loop
-start-requires c κs = c .before .before .before .pre .0 .is-table
+start-requires c κs = c .pre
 
 slice-aggregate-text : tie.Need-slice-aggregate-text Inv-loop μ-loop
 slice-aggregate-text c = refl
@@ -46,78 +24,33 @@ text-requires : tie.Need-text-requires Inv-loop μ-loop
 text-requires c κs = tt
 
 show-requires : tie.Need-show-requires Inv-loop μ-loop
-show-requires c κs =
-    let begins = c .before .before in
-    let start = begins .before .before .before .before in
-    let t = start .args .table in
-    ((t, stands-words t (start .args .words .now) (start .pre .0) (begins .start .result) 0 (begun begins)), omega arith)
+show-requires c κs = fewer-steps (omega arith) (c .before .before .start .ensures)
 
 loop-holds : tie.Need-loop-holds Inv-loop μ-loop
-loop-holds c = (omega arith, begun (c .before .before .before))
-
-mul-step : tie.Need-mul-step Inv-loop μ-loop
-mul-step c = omega arith
-
-shared-slice-read-step : tie.Need-shared-slice-read-step Inv-loop μ-loop
-shared-slice-read-step c = omega arith
+loop-holds c = (omega arith, c .before .before .before .start .ensures)
 
 returns : tie.Need-returns Inv-loop μ-loop
 returns c = tt
 
-slice-aggregate-field : tie.Need-slice-aggregate-field Inv-loop μ-loop
-slice-aggregate-field c = refl
+at-requires : tie.Need-at-requires Inv-loop μ-loop
+at-requires c κs = tt
 
-field-requires : tie.Need-field-requires Inv-loop μ-loop
-field-requires c κs = tt
+next-requires : tie.Need-next-requires Inv-loop μ-loop
+next-requires c κs = c .before .before .before .before .loop .inv
 
-cast-next-place : tie.Need-cast-next-place Inv-loop μ-loop
-cast-next-place c = omega arith
+add-i : tie.Need-add-i Inv-loop μ-loop
+add-i c = omega (arith, c .before .before .before .before .loop-test .taken)
 
-next-place-requires : tie.Need-next-place-requires Inv-loop μ-loop
-next-place-requires c κs =
-    let turn = c .before .before .before .before in
-    let loop = turn .before in
-    let start = origin loop in
-    stands-ready (start .args .table) (start .pre .0 .is-table) (loop .loop .place) (loop .loop .i) (loop .loop .inv .1)
-    (omega (arith, turn .loop-test .taken, start .pre .1))
+loop-less : tie.Need-loop-less Inv-loop μ-loop
+loop-less c = omega (arith, c .before .before .before .before .loop-test .taken)
 
-slice-aggregate-line : tie.Need-slice-aggregate-line Inv-loop μ-loop
-slice-aggregate-line c = refl
-
-line-requires : tie.Need-line-requires Inv-loop μ-loop
-line-requires c κs = tt
+loop-again : tie.Need-loop-again Inv-loop μ-loop
+loop-again c =
+    let less = c .before .before .before .before .loop-test .taken in
+    (omega (arith, less), fewer-steps (omega (arith, less)) (c .next .ensures))
 
 returns-2 : tie.Need-returns-2 Inv-loop μ-loop
 returns-2 c = tt
-
-add-show : tie.Need-add-show Inv-loop μ-loop
-add-show c = omega arith
-
-show-requires-2 : tie.Need-show-requires-2 Inv-loop μ-loop
-show-requires-2 c κs =
-    let made = c .before in
-    let turn = made .before .before .before .before .before .before .before in
-    let loop = turn .before in
-    let start = origin loop in
-    let t = start .args .table in
-    let place = made .before .before .next-place .result .place in (
-      (t, stands-words t (start .args .words .now) (start .pre .0) place (loop .loop .i + 1) (stepped made)),
-      omega (arith, turn .loop-test .taken, start .pre .1),
-    )
-
-add-i : tie.Need-add-i Inv-loop μ-loop
-add-i c =
-    let turn = c .before .before .before .before .before .before .before .before .before in
-    omega (arith, turn .loop-test .taken, origin (turn .before) .pre .1)
-
-loop-less : tie.Need-loop-less Inv-loop μ-loop
-loop-less c = omega arith
-
-loop-again : tie.Need-loop-again Inv-loop μ-loop
-loop-again c = (omega arith, stepped (c .before .before))
-
-returns-3 : tie.Need-returns-3 Inv-loop μ-loop
-returns-3 c = tt
 
 pub follow-spec : {M : Type 1} → statement M
 follow-spec =
@@ -130,19 +63,10 @@ follow-spec =
     text-requires
     show-requires
     loop-holds
-    mul-step
-    shared-slice-read-step
     returns
-    slice-aggregate-field
-    field-requires
-    cast-next-place
-    next-place-requires
-    slice-aggregate-line
-    line-requires
-    returns-2
-    add-show
-    show-requires-2
+    at-requires
+    next-requires
     add-i
     loop-less
     loop-again
-    returns-3)
+    returns-2)

@@ -9,12 +9,12 @@ use lib.ListN.{take}
 use lib.Seq.{length-take-le}
 use Rattle.semantics.specs.Nodes.Node.{nodeAt}
 use Rattle.semantics.specs.Regions.Lists.{replicate-zero}
-use Rattle.regions.specs.declared.nodes.Around.{Around}
+use Rattle.regions.specs.declared.nodes.NodeRegion.{NodeRegion}
 use Rattle.regions.specs.Held.{mostTimers, view, Valid}
-use Rattle.regions.specs.Nodes.{mostModes, CeilingsFew, Padded, packAround}
+use Rattle.regions.specs.Nodes.{mostModes, CeilingsFew, Padded, packNodeRegion}
 use Rattle.regions.specs.Laws.Fields.{holds, top-is}
 use Rattle.regions.specs.Laws.Nodes.{corners-few}
-use Rattle.regions.specs.Laws.Around.{around-holds}
+use Rattle.regions.specs.Laws.NodeRegion.{node-region-holds}
 use Rattle.cases.proofs.corners.found_again.Statement.{statement}
 use Rattle.cases.proofs.corners.found_again.Tie as tie
 
@@ -58,11 +58,11 @@ region-at-requires c κs =
 
 -- What `node_of` asks of the region around a number.
 ready :
-    (n i : ℕ) → 1 ≤ n → n ≤ mostTimers → (r : Around) → r ≡ packAround (take n zeros) (nodeAt (take n zeros) i)
+    (n i : ℕ) → 1 ≤ n → n ≤ mostTimers → (r : NodeRegion) → r ≡ packNodeRegion (take n zeros) (nodeAt (take n zeros) i)
     → Valid (r .region) × (r .index ≤ r .region .top) × (0 < mostModes) × CeilingsFew zeros × Padded (r .region .timers) zeros
 ready n i some few r e =
     let many = length-take-le n zeros (omega arith) in
-    let h = around-holds (take n zeros) (omega (arith, many)) (omega (arith, many)) i r e in
+    let h = node-region-holds (take n zeros) (omega (arith, many)) (omega (arith, many)) i r e in
     let top = top-is (r .region) (view (r .region)) (holds (r .region) (h .valid)) in
     (h .valid, omega (arith, h .inside, top), omega arith, zeros-few, rw (h .timers-are ∙ many) (zeros-padded n few))
 

@@ -2,14 +2,15 @@
 -- Assumes nothing.
 use Prim.Native.Nat.{_-_, _≤_}
 use native.Mathlib.Omega.{arith}
+use borrow.Author.Needs.{needs}
 use Rattle.cases.proofs.scripts.list.Statement.{statement}
 use Rattle.cases.proofs.scripts.list.Tie as tie
 
 abbrev Inv-loop : tie.InvT-loop
-Inv-loop name n entries i₀ i = i ≤ 4
+Inv-loop name n entries i₀ i-end i = (i ≤ i-end) × (i-end ≤ 4)
 
 abbrev μ-loop : tie.MeasureT-loop
-μ-loop name n entries i₀ i = 4 - i
+μ-loop name n entries i₀ i-end i = i-end - i
 
 text-requires : tie.Need-text-requires Inv-loop μ-loop
 text-requires c κs = tt
@@ -17,14 +18,14 @@ text-requires c κs = tt
 loop-holds : tie.Need-loop-holds Inv-loop μ-loop
 loop-holds c = omega arith
 
-returns : tie.Need-returns Inv-loop μ-loop
-returns c = tt
-
 mul-entry : tie.Need-mul-entry Inv-loop μ-loop
 mul-entry c = omega arith
 
 array-read-entry : tie.Need-array-read-entry Inv-loop μ-loop
 array-read-entry c = omega arith
+
+cast-entry : tie.Need-cast-entry Inv-loop μ-loop
+cast-entry c = search needs
 
 entry-requires : tie.Need-entry-requires Inv-loop μ-loop
 entry-requires c κs = tt
@@ -38,8 +39,8 @@ loop-less c = omega arith
 loop-again : tie.Need-loop-again Inv-loop μ-loop
 loop-again c = omega arith
 
-returns-2 : tie.Need-returns-2 Inv-loop μ-loop
-returns-2 c = tt
+returns : tie.Need-returns Inv-loop μ-loop
+returns c = tt
 
 pub list-spec : {M : Type 1} → statement M
 list-spec =
@@ -49,11 +50,11 @@ list-spec =
     μ-loop
     text-requires
     loop-holds
-    returns
     mul-entry
     array-read-entry
+    cast-entry
     entry-requires
     add-i
     loop-less
     loop-again
-    returns-2)
+    returns)

@@ -1,12 +1,13 @@
 -- `cases::searches::list` meets its contract.
 -- Assumes nothing.
-use Prim.Native.Nat.{_-_, _≤_}
+use Prim.Native.Nat.{_-_}
+use Prim.{Unit}
 use native.Mathlib.Omega.{arith}
 use Rattle.cases.proofs.searches.list.Statement.{statement}
 use Rattle.cases.proofs.searches.list.Tie as tie
 
 abbrev Inv-loop : tie.InvT-loop
-Inv-loop name words i₀ i-end i = i ≤ i-end
+Inv-loop name words i₀ i-end i = Unit {0}
 
 abbrev μ-loop : tie.MeasureT-loop
 μ-loop name words i₀ i-end i = i-end - i
@@ -15,13 +16,16 @@ text-requires : tie.Need-text-requires Inv-loop μ-loop
 text-requires c κs = tt
 
 loop-holds : tie.Need-loop-holds Inv-loop μ-loop
-loop-holds c = omega arith
+loop-holds c = tt
 
-mul-entry : tie.Need-mul-entry Inv-loop μ-loop
-mul-entry c = omega arith
+mul-wide : tie.Need-mul-wide Inv-loop μ-loop
+mul-wide c = omega arith
 
-shared-slice-read-entry : tie.Need-shared-slice-read-entry Inv-loop μ-loop
-shared-slice-read-entry c = omega arith
+shared-slice-read-wide : tie.Need-shared-slice-read-wide Inv-loop μ-loop
+shared-slice-read-wide c = omega arith
+
+wide-requires : tie.Need-wide-requires Inv-loop μ-loop
+wide-requires c κs = tt
 
 entry-requires : tie.Need-entry-requires Inv-loop μ-loop
 entry-requires c κs = tt
@@ -33,10 +37,10 @@ loop-less : tie.Need-loop-less Inv-loop μ-loop
 loop-less c = omega arith
 
 loop-again : tie.Need-loop-again Inv-loop μ-loop
-loop-again c = omega arith
+loop-again c = tt
 
-end-line-requires : tie.Need-end-line-requires Inv-loop μ-loop
-end-line-requires c κs = tt
+letter-requires : tie.Need-letter-requires Inv-loop μ-loop
+letter-requires c κs = tt
 
 returns : tie.Need-returns Inv-loop μ-loop
 returns c = tt
@@ -49,11 +53,12 @@ list-spec =
     μ-loop
     text-requires
     loop-holds
-    mul-entry
-    shared-slice-read-entry
+    mul-wide
+    shared-slice-read-wide
+    wide-requires
     entry-requires
     add-i
     loop-less
     loop-again
-    end-line-requires
+    letter-requires
     returns)

@@ -3,7 +3,7 @@
 use mathlib.Core.Path.{_≡_}
 use borrow.Author.Needs.{needs}
 use lib.ListN.{length}
-use Rattle.regions.proofs.Around.{index-few, around-is}
+use Rattle.regions.proofs.NodeRegion.{index-few, node-region-is}
 use Rattle.regions.proofs.nodes.region_at.Statement.{statement}
 use Rattle.regions.proofs.nodes.region_at.Tie as tie
 
@@ -41,7 +41,7 @@ returns c =
     let found = indices .before .before .before .before in
     let start = found .before in
     rw (indices .index-to .ensures, c .before .before .index-to2 .ensures, c .before .index-to3 .ensures)
-    (around-is (start .args .timers) (start .args .ceilings) (sized start) (start .pre .0) (start .pre .1) (start .args .number)
+    (node-region-is (start .args .timers) (start .args .ceilings) (sized start) (start .pre .0) (start .pre .1) (start .args .number)
     (found .node-at .result) (found .node-at .ensures))
 
 pub region-at-spec : {M : Type 1} → statement M

@@ -4,9 +4,11 @@ use mathlib.Core.Path.{_≡_, refl}
 use mathlib.Core.Logic.{⊎-elim, inl, inr}
 use Prim.Native.Nat.{ℕ, _+_, _*_, _-_, _/_, _≤_, _<_}
 use native.Mathlib.Decide.{ℕ-discrete}
+use native.Mathlib.Nat.{div-le-self}
 use native.Mathlib.Omega.{arith}
 use Rattle.semantics.specs.Graph.Path.{infinity, chargeAt}
-use Rattle.search.proofs.Nearest.{goal-last, Least, least-none, least-cheaper, least-fewer, least-kept, is-best, is-best-none}
+use Rattle.search.specs.Laws.Shares.{share-below}
+use Rattle.search.proofs.Nearest.{Least, least-none, least-cheaper, least-fewer, least-kept, is-best, is-best-none}
 use Rattle.search.proofs.near.best.Statement.{statement}
 use Rattle.search.proofs.near.best.Tie as tie
 
@@ -22,7 +24,9 @@ abbrev μ-loop : tie.MeasureT-loop
 among : (c : tie.Then1 Inv-loop μ-loop)
     → c .before .args .goal * (c .before .args .nodes / c .before .args .modes) + c .before .args .nodes / c .before .args .modes
     ≤ c .before .args .nodes
-among c = goal-last (c .before .args .nodes) (c .before .args .goal) (c .before .args .modes) (c .before .pre .shared) (c .if1 .taken)
+among c =
+    let a = c .before .args in
+    omega (arith, share-below (a .goal) (a .modes) (a .nodes / a .modes) (c .if1 .taken), c .before .pre .shared)
 
 -- What is neither less nor the same is more.
 dearer : (a b : ℕ) → a ≤ b → (b ≡ a → ⊥) → a < b
@@ -32,8 +36,17 @@ dearer a b h n = go (ℕ-discrete b a)
     go (yes e) = absurd (n e)
     go (no d) = omega arith
 
+cast-share : tie.Need-cast-share Inv-loop μ-loop
+cast-share c = omega (arith, c .before .pre .words .few)
+
+cast-share-2 : tie.Need-cast-share-2 Inv-loop μ-loop
+cast-share-2 c = omega (arith, c .before .pre .modes-few)
+
 div-share : tie.Need-div-share Inv-loop μ-loop
 div-share c = omega arith
+
+cast-share-3 : tie.Need-cast-share-3 Inv-loop μ-loop
+cast-share-3 c = let a = c .before .args in omega (arith, div-le-self (a .nodes) (a .modes), c .before .pre .words .few)
 
 mul-first : tie.Need-mul-first Inv-loop μ-loop
 mul-first c = let h = among c in omega (arith, h)
@@ -131,7 +144,10 @@ best-spec =
     (tie.spec
     Inv-loop
     μ-loop
+    cast-share
+    cast-share-2
     div-share
+    cast-share-3
     mul-first
     add-v-end
     loop-holds

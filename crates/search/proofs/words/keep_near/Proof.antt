@@ -1,41 +1,41 @@
--- `words::keep_near` meets its contract. The loop's invariant: nothing is left to do for the nodes before this one, and all other words are the
--- same.
+-- `words::keep_near` meets its contract. The loop's invariant: the words of the nodes before this one are done, and all others are the same.
 -- Assumes nothing.
-use mathlib.Core.Logic.{⊎-elim, inl, inr}
-use mathlib.Core.Path.{_≡_}
-use Prim.Native.Nat.{_+_, _*_, _-_, _≤_}
+use mathlib.Core.Logic.{⊎-elim}
+use mathlib.Core.Path.{_≡_, sym, _∙_}
+use Prim.Native.Nat.{_+_, _*_, _-_, _≤_, _<_}
 use native.Mathlib.Omega.{arith}
 use lib.ListN.{length, length-set}
-use denote.Ref.{now}
 use borrow.Author.Needs.{needs}
 use Rattle.semantics.specs.Graph.Path.{infinity}
-use Rattle.search.proofs.Nearest.{Keeping, keeping-none, keeping-drop, keeping-same, keeping-all}
+use Rattle.search.proofs.Keeping.{Keeping, keeping-none, keeping-near, keeping-far, keeping-all}
 use Rattle.search.proofs.words.keep_near.Statement.{statement}
 use Rattle.search.proofs.words.keep_near.Tie as tie
 
 abbrev Inv-loop : tie.InvT-loop
-Inv-loop words₀ nodes charge steps v₀ words v =
-    (v ≤ nodes) × (2 * nodes ≤ length words) × Keeping nodes charge steps v words₀ words
+Inv-loop words₀ nodes best v₀ words v = (v ≤ nodes) × (2 * nodes ≤ length words) × Keeping nodes best v words₀ words
 
 abbrev μ-loop : tie.MeasureT-loop
-μ-loop words₀ nodes charge steps v₀ words v = nodes - v
+μ-loop words₀ nodes best v₀ words v = nodes - v
 
 loop-holds : tie.Need-loop-holds Inv-loop μ-loop
 loop-holds c =
-    let a = c .args in
-    (omega arith, c .pre .room, keeping-none (a .nodes) (a .charge) (a .steps) (now (a .words)))
+    let s = c .before in
+    (omega arith, s .pre .words .room, keeping-none (s .args .nodes) (s .args .best) (s .args .words .now))
 
-mul-if1 : tie.Need-mul-if1 Inv-loop μ-loop
-mul-if1 c = omega arith
+charge-of-requires : tie.Need-charge-of-requires Inv-loop μ-loop
+charge-of-requires c κs = omega arith
 
-mul-if1-2 : tie.Need-mul-if1-2 Inv-loop μ-loop
-mul-if1-2 c = omega arith
+steps-of-requires : tie.Need-steps-of-requires Inv-loop μ-loop
+steps-of-requires c κs = omega arith
 
-slice-read-if1 : tie.Need-slice-read-if1 Inv-loop μ-loop
-slice-read-if1 c = omega arith
+is-near-requires : tie.Need-is-near-requires Inv-loop μ-loop
+is-near-requires c κs = search needs
 
 mul-words : tie.Need-mul-words Inv-loop μ-loop
 mul-words c = omega arith
+
+add-words : tie.Need-add-words Inv-loop μ-loop
+add-words c = omega arith
 
 mul-words-2 : tie.Need-mul-words-2 Inv-loop μ-loop
 mul-words-2 c = omega arith
@@ -46,50 +46,24 @@ slice-write-words c = omega arith
 mul-words-3 : tie.Need-mul-words-3 Inv-loop μ-loop
 mul-words-3 c = omega arith
 
-add-words : tie.Need-add-words Inv-loop μ-loop
-add-words c = omega arith
-
 mul-words-4 : tie.Need-mul-words-4 Inv-loop μ-loop
 mul-words-4 c = omega arith
 
 slice-write-words-2 : tie.Need-slice-write-words-2 Inv-loop μ-loop
-slice-write-words-2 c =
-    let loop = c .before .before .before .loop in
-    omega (arith, length-set (loop .words) (2 * loop .v) infinity)
-
-mul-if2 : tie.Need-mul-if2 Inv-loop μ-loop
-mul-if2 c = omega arith
-
-add-if2 : tie.Need-add-if2 Inv-loop μ-loop
-add-if2 c = omega arith
-
-mul-if2-2 : tie.Need-mul-if2-2 Inv-loop μ-loop
-mul-if2-2 c = omega arith
-
-slice-read-if2 : tie.Need-slice-read-if2 Inv-loop μ-loop
-slice-read-if2 c = omega arith
+slice-write-words-2 c = omega arith
 
 mul-words-5 : tie.Need-mul-words-5 Inv-loop μ-loop
 mul-words-5 c = omega arith
+
+add-words-2 : tie.Need-add-words-2 Inv-loop μ-loop
+add-words-2 c = omega arith
 
 mul-words-6 : tie.Need-mul-words-6 Inv-loop μ-loop
 mul-words-6 c = omega arith
 
 slice-write-words-3 : tie.Need-slice-write-words-3 Inv-loop μ-loop
-slice-write-words-3 c = omega arith
-
-mul-words-7 : tie.Need-mul-words-7 Inv-loop μ-loop
-mul-words-7 c = omega arith
-
-add-words-2 : tie.Need-add-words-2 Inv-loop μ-loop
-add-words-2 c = omega arith
-
-mul-words-8 : tie.Need-mul-words-8 Inv-loop μ-loop
-mul-words-8 c = omega arith
-
-slice-write-words-4 : tie.Need-slice-write-words-4 Inv-loop μ-loop
-slice-write-words-4 c =
-    let loop = c .before .before .before .before .before .loop in
+slice-write-words-3 c =
+    let loop = c .before .before .before .before .before .before .before .loop in
     omega (arith, length-set (loop .words) (2 * loop .v) infinity)
 
 add-v : tie.Need-add-v Inv-loop μ-loop
@@ -100,29 +74,38 @@ loop-less c = omega arith
 
 loop-again : tie.Need-loop-again Inv-loop μ-loop
 loop-again c =
-    let head = c .before .before .before in
-    let s = head .before in
+    let near = c .before in
+    let counted = near .before in
+    let charged = counted .before .before in
+    let head = charged .before .before .before in
+    let s = head .before .before in
     let n = s .args .nodes in
-    let v = head .loop .v in
+    let best = s .args .best in
     let ws = s .args .words .now in
     let us = head .loop .words in
+    let v = head .loop .v in
     let k = head .loop .inv .2 in
-    let next : Keeping n (s .args .charge) (s .args .steps) (v + 1) ws (c .if1 .words) =
-    ⊎-elim (λ x. rw (x .1) (keeping-drop n (s .args .charge) (s .args .steps) v ws us (s .pre) (omega arith) k (inl (x .0 .taken))))
-    (⊎-elim
-    (λ x. rw (x .3) (keeping-drop n (s .args .charge) (s .args .steps) v ws us (s .pre) (omega arith) k (inr (x .2 .taken))))
-    (λ x. rw (x .3) (keeping-same n (s .args .charge) (s .args .steps) v ws us (s .pre) (omega arith) k (x .0 .left) (x .2 .left))))
+    let there : v < n = charged .before .before .loop-test .taken in
+    let most : charged .charge-of .result ≤ infinity = omega (arith, charged .charge-of .ok) in
+    let next : Keeping n best (v + 1) ws (c .if1 .words) =
+    ⊎-elim
+    (λ x. rw (x .1)
+    (keeping-near n best v ws us (s .pre .words .room) there k (s .pre .blank) (charged .charge-of .result) (counted .steps-of .result) most
+    (charged .charge-of .ensures) (counted .steps-of .ensures) (sym (near .is-near .ensures) ∙ x .0 .taken)))
+    (λ x. rw (x .1)
+    (keeping-far n best v ws us (s .pre .words .room) there k (s .pre .blank) (charged .charge-of .result) (counted .steps-of .result) most
+    (charged .charge-of .ensures) (counted .steps-of .ensures) (sym (near .is-near .ensures) ∙ x .0 .left)))
     (c .if1 .came) in
-    (omega arith, omega (arith, next .kept, s .pre .room), next)
+    (omega arith, omega (arith, next .kept, s .pre .words .room), next)
 
 same-length : tie.Need-same-length Inv-loop μ-loop
-same-length c = search needs
+same-length c = c .before .loop .inv .2 .kept
 
 returns : tie.Need-returns Inv-loop μ-loop
 returns c =
-    let a = c .before .before .args in
-    let end : c .before .loop .v ≡ a .nodes = omega arith in
-    keeping-all (a .nodes) (a .charge) (a .steps) (now (a .words)) (c .before .loop .words) (rw end at (c .before .loop .inv .2))
+    let s = c .before .before .before in
+    let end : c .before .loop .v ≡ s .args .nodes = omega arith in
+    keeping-all (s .args .nodes) (s .args .best) (s .args .words .now) (c .before .loop .words) (rw end at (c .before .loop .inv .2))
 
 pub keep-near-spec : {M : Type 1} → statement M
 keep-near-spec =
@@ -131,27 +114,20 @@ keep-near-spec =
     Inv-loop
     μ-loop
     loop-holds
-    mul-if1
-    mul-if1-2
-    slice-read-if1
+    charge-of-requires
+    steps-of-requires
+    is-near-requires
     mul-words
+    add-words
     mul-words-2
     slice-write-words
     mul-words-3
-    add-words
     mul-words-4
     slice-write-words-2
-    mul-if2
-    add-if2
-    mul-if2-2
-    slice-read-if2
     mul-words-5
+    add-words-2
     mul-words-6
     slice-write-words-3
-    mul-words-7
-    add-words-2
-    mul-words-8
-    slice-write-words-4
     add-v
     loop-less
     loop-again

@@ -1,0 +1,65 @@
+-- `cases::plans::plan` meets its contract. The words and the route bytes lent are the first of those held.
+-- Assumes nothing.
+use mathlib.Core.Path.{sym}
+use Prim.Native.Nat.{ℕ, _%_, _≤_}
+use native.Mathlib.Nat.{mod-lt}
+use native.Mathlib.Omega.{arith}
+use lib.Dec.{lit<}
+use lib.ListN.{length, replicate, length-replicate}
+use lib.Seq.{length-take-le}
+use Rattle.cases.proofs.plans.plan.Statement.{statement}
+use Rattle.cases.proofs.plans.plan.Tie as tie
+
+-- So many words and route bytes are held.
+lent-few : (lent : ℕ) → lent % 129601 ≤ 129600
+lent-few lent = omega (arith, mod-lt lent {m = 129601} (lit< tt))
+
+room-few : (room : ℕ) → room % 257 ≤ length (replicate {A = ℕ} 256 9)
+room-few room = omega (arith, length-replicate {A = ℕ} 256 9, mod-lt room {m = 257} (lit< tt))
+
+sevens-requires : tie.Need-sevens-requires
+sevens-requires c κs = tt
+
+array-borrow-prefix-words : tie.Need-array-borrow-prefix-words
+array-borrow-prefix-words c = omega (arith, lent-few (c .before .before .args .lent), c .sevens .ensures)
+
+slice-aggregate-plan : tie.Need-slice-aggregate-plan
+slice-aggregate-plan c = sym (length-take-le _ (c .before .sevens .result) (array-borrow-prefix-words (c .before)))
+
+array-borrow-prefix-route : tie.Need-array-borrow-prefix-route
+array-borrow-prefix-route c = room-few (c .before .before .before .args .room)
+
+slice-aggregate-plan-2 : tie.Need-slice-aggregate-plan-2
+slice-aggregate-plan-2 c =
+    let room = c .before .before .before .before .args .room in
+    sym (length-take-le (room % 257) (replicate {A = ℕ} 256 9) (room-few room))
+
+plan-requires : tie.Need-plan-requires
+plan-requires c κs = tt
+
+show-requires : tie.Need-show-requires
+show-requires c κs = tt
+
+steps-requires : tie.Need-steps-requires
+steps-requires c κs = tt
+
+told-requires : tie.Need-told-requires
+told-requires c κs = tt
+
+returns : tie.Need-returns
+returns c = tt
+
+pub plan-spec : {M : Type 1} → statement M
+plan-spec =
+    tie.close
+    (tie.spec
+    sevens-requires
+    array-borrow-prefix-words
+    slice-aggregate-plan
+    array-borrow-prefix-route
+    slice-aggregate-plan-2
+    plan-requires
+    show-requires
+    steps-requires
+    told-requires
+    returns)

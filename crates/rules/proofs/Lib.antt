@@ -1,0 +1,8 @@
+-- The laws that the functions' proofs cite.
+pub mod TimerTests
+pub mod Codes
+pub mod Narrowing
+pub mod Writing
+pub mod Filling
+pub mod Ordering
+pub mod Whole

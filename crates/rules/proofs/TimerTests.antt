@@ -1,0 +1,45 @@
+-- The test of one timer, and of one timer after another.
+-- Assumes nothing.
+use mathlib.Core.Path.{_≡_, sym, _∙_}
+use mathlib.Core.Bool.{Bool, true, false, _&&_, true≢false}
+use mathlib.Core.Logic.{_↔_}
+use mathlib.Core.List.{List}
+use Prim.Native.Nat.{ℕ, _+_, _≤_, _<_}
+use native.Mathlib.Decide.{ℕ-discrete}
+use native.Mathlib.Omega.{arith}
+use borrow.Author.Tests.{ltb-true, lt-ltb, leb-true, le-leb, lt-leb}
+use lib.Dec.{leb, ltb}
+use lib.ListN.{getD}
+use Rattle.semantics.specs.Regions.Compare.{and-true-iff}
+use Rattle.rules.specs.Rules.{lowAt, highAt, InRow}
+
+-- A place below the window, and one that is not.
+pub below : (low h high : ℕ) → h < low → false ≡ (leb low h && ltb h high)
+below low h high p = rw (lt-leb low h p)
+
+pub not-below : (low h high : ℕ) → low ≤ h → ltb h high ≡ (leb low h && ltb h high)
+not-below low h high p = rw (le-leb low h p)
+
+pub in-window : (low h high : ℕ) → ((leb low h && ltb h high) ≡ true) ↔ ((low ≤ h) × (h < high))
+in-window low h high =
+    let both = and-true-iff (leb low h) (ltb h high) in
+    (λ t. (leb-true low h (both .0 t .0), ltb-true h high (both .0 t .1)), λ w. both .1 (le-leb low h (w .0), lt-ltb h high (w .1)))
+
+-- The timers before i are in the windows of a row.
+abbrev pub InUpTo : List ℕ → ℕ → List ℕ → ℕ → Type 0
+InUpTo rs row hs i = (x : ℕ) → x < i → (lowAt rs row x ≤ getD hs x 0) × (getD hs x 0 < highAt rs row x)
+
+module _ (rs hs : List ℕ) (row i : ℕ) (b : Bool)
+    (tested : b ≡ (leb (lowAt rs row i) (getD hs i 0) && ltb (getD hs i 0) (highAt rs row i))) where
+  -- One more of them.
+  pub in-more : b ≡ true → InUpTo rs row hs i → InUpTo rs row hs (i + 1)
+  in-more t before x l = at (ℕ-discrete x i)
+    where
+      at : Dec (x ≡ i) → (lowAt rs row x ≤ getD hs x 0) × (getD hs x 0 < highAt rs row x)
+      at (yes e) = rw e (in-window (lowAt rs row i) (getD hs i 0) (highAt rs row i) .0 (sym tested ∙ t))
+      at (no ne) = before x (omega arith)
+
+  -- Or one that is outside.
+  pub in-not : b ≡ false → i < 3 → (false ≡ true) ↔ InRow rs row hs
+  in-not t l =
+      (λ e. absurd (true≢false (sym e)), λ all. sym t ∙ tested ∙ in-window (lowAt rs row i) (getD hs i 0) (highAt rs row i) .1 (all i l))

@@ -1,0 +1,80 @@
+-- The parts make the rules.
+-- Assumes nothing.
+use mathlib.Core.Path.{_≡_, sym, ap, _∙_}
+use mathlib.Core.List.{List}
+use Prim.Native.Nat.{ℕ, _+_, _*_, _≤_, _<_}
+use native.Mathlib.Omega.{arith}
+use lib.ListN.{length, getD, take, drop}
+use lib.Seq.{drop-drop}
+use Rattle.semantics.specs.Automaton.{Mode, Move, modeAt, moveAt}
+use Rattle.reader.specs.Meaning.{conditionsFrom}
+use Rattle.reader.specs.Held.{automatonOf, IsTable}
+use Rattle.reader.specs.Theorems.Access.{mode-count, move-count, mode-at, move-at}
+use Rattle.rules.specs.Rules.{none, IsRow, IsRules}
+use Rattle.rules.specs.Making.{Wrote, conditionBytes, FilledRows, OrderedFrom}
+use Rattle.rules.proofs.Filling.{row-kept}
+use Rattle.rules.proofs.Ordering.{modes-few, moves-few}
+
+module _ (t : List ℕ) (table : IsTable t) where
+  -- Where the conditions of a mode and of a move stand.
+  mode-conditions :
+      (m : ℕ) → m < length (automatonOf t .modes) → conditionsFrom 0 (take 6 (drop (10 + 8 * m) t)) ≡ modeAt (automatonOf t) m .conditions
+  mode-conditions m l =
+      let place : 10 + 8 * m ≡ 8 + 8 * m + 2 = omega arith in
+      ap (λ (k : ℕ). conditionsFrom 0 (take 6 (drop k t))) place
+      ∙ ap (λ (u : List ℕ). conditionsFrom 0 (take 6 u)) (sym (drop-drop 2 (8 + 8 * m) t))
+      ∙ sym (ap (λ (o : Mode). o .conditions) (mode-at t m (omega (arith, mode-count t table))))
+
+  move-conditions :
+      (e : ℕ) → e < length (automatonOf t .moves) → conditionsFrom 0 (take 6 (drop (140 + 12 * e) t)) ≡ moveAt (automatonOf t) e .conditions
+  move-conditions e l =
+      let place : 140 + 12 * e ≡ 136 + 12 * e + 4 = omega arith in
+      ap (λ (k : ℕ). conditionsFrom 0 (take 6 (drop k t))) place
+      ∙ ap (λ (u : List ℕ). conditionsFrom 0 (take 6 u)) (sym (drop-drop 4 (136 + 12 * e) t))
+      ∙ sym (ap (λ (o : Move). o .conditions) (move-at t e (omega (arith, move-count t table))))
+
+  -- From zeros: the rows of the modes, those of the moves, no first move, and the moves in their order.
+  module _ (zeros filled full empty rules : List ℕ) (zero-there : (j : ℕ) → getD zeros j 0 ≡ 0) (long : length zeros ≡ 560) (modes moves : ℕ)
+      (modes-are : modes ≡ length (automatonOf t .modes)) (moves-are : moves ≡ length (automatonOf t .moves))
+      (invariants : FilledRows (conditionBytes t 10 8) modes 0 zeros filled) (guards : FilledRows (conditionBytes t 140 12) moves 16 filled full)
+      (cleared : Wrote (λ m. none) 480 modes full empty) (ordered : OrderedFrom (automatonOf t) 0 empty rules) where
+    row-byte : (j : ℕ) → j < 480 → getD rules j 0 ≡ getD full j 0
+    row-byte j l = ordered .before j l ∙ cleared .before j l
+
+    mode-row : (m : ℕ) → m < length (automatonOf t .modes) → IsRow rules m (modeAt (automatonOf t) m .conditions)
+    mode-row m l =
+        let number : 0 + m ≡ m = omega arith in
+        let there : IsRow filled m (conditionsFrom 0 (take 6 (drop (10 + 8 * m) t))) = rw number at (invariants .there m (omega arith)) in
+        rw (mode-conditions m l) at
+        (row-kept (conditionsFrom 0 (take 6 (drop (10 + 8 * m) t))) m filled rules
+        (λ j a b. row-byte j (omega (arith, modes-few t table)) ∙ guards .before j (omega (arith, modes-few t table))) there)
+
+    move-row : (e : ℕ) → e < length (automatonOf t .moves) → IsRow rules (16 + e) (moveAt (automatonOf t) e .conditions)
+    move-row e l =
+        rw (move-conditions e l) at
+        (row-kept (conditionsFrom 0 (take 6 (drop (140 + 12 * e) t))) (16 + e) full rules (λ j a b. row-byte j (omega (arith, moves-few t table)))
+        (guards .there e (omega arith)))
+
+    -- What is behind all rows was 0, and so was what is between those of the modes and those of the moves.
+    behind-rows : (j : ℕ) → 6 * (16 + moves) ≤ j → getD full j 0 ≡ 0
+    behind-rows j l = guards .behind j l ∙ invariants .behind j (omega (arith, modes-few t table)) ∙ zero-there j
+
+    between-rows : (j : ℕ) → 6 * modes ≤ j → j < 96 → getD full j 0 ≡ 0
+    between-rows j l u = guards .before j u ∙ invariants .behind j (omega arith) ∙ zero-there j
+
+    pub is-rules : IsRules t rules
+    is-rules = record {
+      size = ordered .size ∙ cleared .size ∙ guards .size ∙ invariants .size ∙ long;
+      invariants = mode-row;
+      guards = move-row;
+      first = ordered .first;
+      after = λ e l. ordered .after e (omega arith) l;
+      spare-modes = λ m i l u h. (
+        row-byte (6 * m + i) (omega arith) ∙ between-rows (6 * m + i) (omega arith) (omega arith),
+        ordered .spare-modes m l u ∙ cleared .behind (480 + m) (omega arith) ∙ behind-rows (480 + m) (omega (arith, moves-few t table)),
+      );
+      spare-moves = λ e i l u h. (
+        row-byte (6 * (16 + e) + i) (omega arith) ∙ behind-rows (6 * (16 + e) + i) (omega arith),
+        ordered .behind e l ∙ cleared .behind (496 + e) (omega (arith, modes-few t table)) ∙ behind-rows (496 + e) (omega (arith, moves-few t table)),
+      );
+    }

@@ -1,0 +1,121 @@
+-- A region meets the conditions of a mode or move just if its timers are in the windows of its row.
+-- Assumes nothing.
+use mathlib.Core.Path.{_≡_, refl}
+use mathlib.Core.Bool.{true}
+use mathlib.Core.Logic.{_↔_, _≢_}
+use mathlib.Core.List.{List, [], _∷_, List·Memᴰ}
+use Prim.Native.Nat.{ℕ, _+_, _≤_, _<_, max, min}
+use native.Mathlib.Decide.{ℕ-discrete, decLt}
+use native.Mathlib.Omega.{arith}
+use borrow.Author.Tests.{eq-eqb, ne-eqb}
+use lib.ListN.{length, getD}
+use Rattle.semantics.specs.Condition.{Condition}
+use Rattle.semantics.specs.Region.{PricedRegion, meets, meetsAll}
+use Rattle.semantics.specs.Automaton.{timers, modeAt, moveAt}
+use Rattle.semantics.specs.Automata.Proper.{OnTimers}
+use Rattle.semantics.specs.Corners.Lists.{mem-getD}
+use Rattle.semantics.specs.Regions.Compare.{and-true-iff}
+use Rattle.semantics.specs.Regions.Windows.{half, free, lowest, above, meets-window, InWindows, AreWindows, windows-none}
+use Rattle.reader.specs.Held.{automatonOf, IsTable}
+use Rattle.reader.specs.Theorems.Access.{table-proper, timer-count, counts}
+use Rattle.rules.specs.Rules.{lowOf, highOf, InRow, IsRow, IsRules}
+
+-- One condition more narrows the window of its timer, and no other.
+module _ (c : Condition) (cs : List Condition) (x : ℕ) where
+  pub low-own : c .timer ≡ x → lowOf (c ∷ cs) x ≡ max (lowest (c .comparison) (c .value)) (lowOf cs x)
+  low-own e = rw (eq-eqb (c .timer) x e)
+
+  pub high-own : c .timer ≡ x → highOf (c ∷ cs) x ≡ min (above (c .comparison) (c .value)) (highOf cs x)
+  high-own e = rw (eq-eqb (c .timer) x e)
+
+  pub low-other : c .timer ≢ x → lowOf (c ∷ cs) x ≡ lowOf cs x
+  low-other n = rw (ne-eqb (c .timer) x n)
+
+  pub high-other : c .timer ≢ x → highOf (c ∷ cs) x ≡ highOf cs x
+  high-other n = rw (ne-eqb (c .timer) x n)
+
+  -- A place is in the narrower window if it is in the wider one and in that of the condition.
+  narrower :
+      (h : ℕ) → (lowOf cs x ≤ h) × (h < highOf cs x)
+      → (c .timer ≡ x → (lowest (c .comparison) (c .value) ≤ h) × (h < above (c .comparison) (c .value)))
+      → (lowOf (c ∷ cs) x ≤ h) × (h < highOf (c ∷ cs) x)
+  narrower h wide own = at (ℕ-discrete (c .timer) x)
+    where
+      at : Dec (c .timer ≡ x) → (lowOf (c ∷ cs) x ≤ h) × (h < highOf (c ∷ cs) x)
+      at (yes e) = (omega (arith, low-own e, own e .0, wide .0), omega (arith, high-own e, own e .1, wide .1))
+      at (no n) = (omega (arith, low-other n, wide .0), omega (arith, high-other n, wide .1))
+
+  wider : (h : ℕ) → (lowOf (c ∷ cs) x ≤ h) × (h < highOf (c ∷ cs) x) → (lowOf cs x ≤ h) × (h < highOf cs x)
+  wider h narrow = at (ℕ-discrete (c .timer) x)
+    where
+      at : Dec (c .timer ≡ x) → (lowOf cs x ≤ h) × (h < highOf cs x)
+      at (yes e) = (omega (arith, low-own e, narrow .0), omega (arith, high-own e, narrow .1))
+      at (no n) = (omega (arith, low-other n, narrow .0), omega (arith, high-other n, narrow .1))
+
+own-window :
+    (c : Condition) (cs : List Condition) (h : ℕ) → (lowOf (c ∷ cs) (c .timer) ≤ h) × (h < highOf (c ∷ cs) (c .timer))
+    → (lowest (c .comparison) (c .value) ≤ h) × (h < above (c .comparison) (c .value))
+own-window c cs h narrow = (omega (arith, low-own c cs (c .timer) refl, narrow .0), omega (arith, high-own c cs (c .timer) refl, narrow .1))
+
+-- The windows of conditions are those in which they hold.
+module _ (c : Condition) (cs : List Condition) (r : PricedRegion) (f : (x : ℕ) → half r x < free)
+    (others : (meetsAll cs r ≡ true) ↔ InWindows (lowOf cs) (highOf cs) r) where
+  into : (meets c r ≡ true) × (meetsAll cs r ≡ true) → InWindows (lowOf (c ∷ cs)) (highOf (c ∷ cs)) r
+  into met x =
+      narrower c cs x (half r x) (others .0 (met .1) x)
+      (λ e. rw e at (meets-window c r (f (c .timer)) .0 (met .0)))
+
+  out : InWindows (lowOf (c ∷ cs)) (highOf (c ∷ cs)) r → (meets c r ≡ true) × (meetsAll cs r ≡ true)
+  out i = (
+    meets-window c r (f (c .timer)) .1 (own-window c cs (half r (c .timer)) (i (c .timer))),
+    others .1 (λ x. wider c cs x (half r x) (i x)),
+  )
+
+  more : (meetsAll (c ∷ cs) r ≡ true) ↔ InWindows (lowOf (c ∷ cs)) (highOf (c ∷ cs)) r
+  more = let both = and-true-iff (meets c r) (meetsAll cs r) in (λ t. into (both .0 t), λ i. both .1 (out i))
+
+pub windows-of : (cs : List Condition) → AreWindows (lowOf cs) (highOf cs) cs
+windows-of [] r f = windows-none r f
+windows-of (c ∷ cs) r f = more c cs r f (windows-of cs r f)
+
+-- A timer that no condition speaks of is free.
+pub unspoken : (n : ℕ) (cs : List Condition) → OnTimers n cs → (x : ℕ) → n ≤ x → (lowOf cs x ≡ 0) × (highOf cs x ≡ free)
+unspoken n [] on x l = (refl, refl)
+unspoken n (c ∷ cs) on x l =
+    let there : c .timer < n = on c (List·Memᴰ.List·Memᴰ·head refl) in
+    let other : c .timer ≢ x = λ e. omega arith in
+    let rest = unspoken n cs (λ d m. on d (List·Memᴰ.List·Memᴰ·tail m)) x l in
+    (rw (low-other c cs x other) (rest .0), rw (high-other c cs x other) (rest .1))
+
+-- The windows of a row, for conditions that speak of three timers.
+row-window :
+    (rs : List ℕ) (row : ℕ) (cs : List Condition) → IsRow rs row cs → OnTimers 3 cs → (r : PricedRegion)
+    → ((x : ℕ) → half r x < free) → (hs : List ℕ) → ((x : ℕ) → x < 3 → getD hs x 0 ≡ half r x) → InRow rs row hs ↔ (meetsAll cs r ≡ true)
+row-window rs row cs is on r f hs stand = (λ i. windows-of cs r f .1 (λ x. all i x (decLt x 3)), λ t x l. back (windows-of cs r f .0 t) x l)
+  where
+    all : InRow rs row hs → (x : ℕ) → Dec (x < 3) → (lowOf cs x ≤ half r x) × (half r x < highOf cs x)
+    all i x (yes l) = (omega (arith, is .low x l, i x l .0, stand x l), omega (arith, is .high x l, i x l .1, stand x l))
+    all i x (no n) =
+        let none = unspoken 3 cs on x (omega arith) in
+        (omega (arith, none .0), omega (arith, none .1, f x))
+
+    back : InWindows (lowOf cs) (highOf cs) r → InRow rs row hs
+    back i x l = (omega (arith, is .low x l, i x .0, stand x l), omega (arith, is .high x l, i x .1, stand x l))
+
+module _ (t rs : List ℕ) (table : IsTable t) (rules : IsRules t rs) where
+  on-three : (cs : List Condition) → OnTimers (timers (automatonOf t)) cs → OnTimers 3 cs
+  on-three cs on c m = omega (arith, on c m, timer-count t table, counts t table)
+
+  pub mode-window :
+      (m : ℕ) → m < length (automatonOf t .modes) → (r : PricedRegion) → ((x : ℕ) → half r x < free) → (hs : List ℕ)
+      → ((x : ℕ) → x < 3 → getD hs x 0 ≡ half r x) → InRow rs m hs ↔ (meetsAll (modeAt (automatonOf t) m .conditions) r ≡ true)
+  mode-window m there r f hs stand =
+      row-window rs m (modeAt (automatonOf t) m .conditions) (rules .invariants m there)
+      (on-three _ (table-proper t table .invariants-on _ (mem-getD (automatonOf t .modes) m _ there))) r f hs stand
+
+  pub move-window :
+      (e : ℕ) → e < length (automatonOf t .moves) → (r : PricedRegion) → ((x : ℕ) → half r x < free) → (hs : List ℕ)
+      → ((x : ℕ) → x < 3 → getD hs x 0 ≡ half r x) → InRow rs (16 + e) hs ↔ (meetsAll (moveAt (automatonOf t) e .conditions) r ≡ true)
+  move-window e there r f hs stand =
+      row-window rs (16 + e) (moveAt (automatonOf t) e .conditions) (rules .guards e there)
+      (on-three _ (table-proper t table .guards-on _ (mem-getD (automatonOf t .moves) e _ there))) r f hs stand

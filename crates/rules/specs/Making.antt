@@ -1,0 +1,49 @@
+-- What the private functions that make the rules do.
+-- Assumes nothing.
+use mathlib.Core.Path.{_≡_}
+use mathlib.Core.List.{List, [], _∷_}
+use Prim.Native.Nat.{ℕ, _+_, _*_, _≤_, _<_, max, min}
+use lib.ListN.{length, getD, set, take, drop}
+use Rattle.semantics.specs.Condition.{Condition}
+use Rattle.semantics.specs.Automaton.{Automaton, moveAt}
+use Rattle.semantics.specs.Regions.Windows.{lowest, above}
+use Rattle.reader.specs.Meaning.{conditionsFrom}
+use Rattle.rules.specs.Rules.{lowOf, highOf, firstOf, afterOf, FirstFrom, IsRow}
+
+-- The six bytes of a row.
+abbrev pub rowOf : List Condition → List ℕ
+rowOf cs = lowOf cs 0 ∷ highOf cs 0 ∷ lowOf cs 1 ∷ highOf cs 1 ∷ lowOf cs 2 ∷ highOf cs 2 ∷ []
+
+-- The row with one condition more.
+abbrev pub narrow : List ℕ → Condition → List ℕ
+narrow row c =
+    set (set row (2 * c .timer) (max (getD row (2 * c .timer) 0) (lowest (c .comparison) (c .value)))) (2 * c .timer + 1)
+    (min (getD row (2 * c .timer + 1) 0) (above (c .comparison) (c .value)))
+
+-- So many bytes from `at` on are those of f, and all else is as in rs.
+pub record Wrote (f : ℕ → ℕ) (at count : ℕ) (rs rs′ : List ℕ) : Type 0 where
+  pub size : length rs′ ≡ length rs
+  pub there : (i : ℕ) → i < count → getD rs′ (at + i) 0 ≡ f i
+  pub before : (j : ℕ) → j < at → getD rs′ j 0 ≡ getD rs j 0
+  pub behind : (j : ℕ) → at + count ≤ j → getD rs′ j 0 ≡ getD rs j 0
+
+-- The six condition bytes of record k, of those whose conditions begin at a place and stand so far apart.
+abbrev pub conditionBytes : List ℕ → ℕ → ℕ → ℕ → List ℕ
+conditionBytes t at stride k = take 6 (drop (at + stride * k) t)
+
+-- The rows from `row` on have the windows of so many records' bytes, and all else is as in rs.
+pub record FilledRows (bytes : ℕ → List ℕ) (count row : ℕ) (rs rs′ : List ℕ) : Type 0 where
+  pub size : length rs′ ≡ length rs
+  pub there : (k : ℕ) → k < count → IsRow rs′ (row + k) (conditionsFrom 0 (bytes k))
+  pub before : (j : ℕ) → j < 6 * row → getD rs′ j 0 ≡ getD rs j 0
+  pub behind : (j : ℕ) → 6 * (row + count) ≤ j → getD rs′ j 0 ≡ getD rs j 0
+
+-- The moves from e on stand in their order, and all else is as in rs.
+pub record OrderedFrom (a : Automaton) (e : ℕ) (rs rs′ : List ℕ) : Type 0 where
+  pub size : length rs′ ≡ length rs
+  pub first : (m : ℕ) → m < length (a .modes) → FirstFrom a m e (firstOf rs′ m)
+  pub after : (k : ℕ) → e ≤ k → k < length (a .moves) → FirstFrom a (moveAt a k .source) (k + 1) (afterOf rs′ k)
+  pub before : (j : ℕ) → j < 480 → getD rs′ j 0 ≡ getD rs j 0
+  pub spare-modes : (m : ℕ) → length (a .modes) ≤ m → m < 16 → firstOf rs′ m ≡ firstOf rs m
+  pub earlier : (k : ℕ) → k < e → afterOf rs′ k ≡ afterOf rs k
+  pub behind : (k : ℕ) → length (a .moves) ≤ k → afterOf rs′ k ≡ afterOf rs k

@@ -1,0 +1,68 @@
+-- What a search looks at instead of a table's conditions, 560 bytes: for each mode and move the window of each timer in half minutes, and the moves
+-- of each mode one after another.
+-- Assumes nothing.
+use mathlib.Core.Path.{_≡_}
+use mathlib.Core.Bool.{cond}
+use mathlib.Core.Logic.{_≢_}
+use mathlib.Core.List.{List, [], _∷_}
+use Prim.Native.Nat.{ℕ, _+_, _*_, _≤_, _<_, max, min}
+use lib.Dec.{eqb}
+use lib.ListN.{length, getD}
+use Rattle.semantics.specs.Condition.{Condition}
+use Rattle.semantics.specs.Automaton.{Automaton, modeAt, moveAt}
+use Rattle.semantics.specs.Regions.Windows.{free, lowest, above}
+use Rattle.reader.specs.Held.{automatonOf}
+
+-- The window of timer x by conditions: the highest of their lowest places, and the lowest of those that are first above them.
+abbrev pub lowOf : List Condition → ℕ → ℕ
+lowOf [] x = 0
+lowOf (c ∷ cs) x = cond (eqb (c .timer) x) (max (lowest (c .comparison) (c .value)) (lowOf cs x)) (lowOf cs x)
+
+abbrev pub highOf : List Condition → ℕ → ℕ
+highOf [] x = free
+highOf (c ∷ cs) x = cond (eqb (c .timer) x) (min (above (c .comparison) (c .value)) (highOf cs x)) (highOf cs x)
+
+-- Rows of six bytes, the modes' from row 0 on and the moves' from row 16 on. Of timer x the lowest place at which its conditions hold stands at 2x,
+-- and the first above it at which they do not at 2x + 1.
+abbrev pub lowAt : List ℕ → ℕ → ℕ → ℕ
+lowAt rs row x = getD rs (6 * row + 2 * x) 0
+
+abbrev pub highAt : List ℕ → ℕ → ℕ → ℕ
+highAt rs row x = getD rs (6 * row + 2 * x + 1) 0
+
+-- Timers that stand at these places are in the windows of a row.
+abbrev pub InRow : List ℕ → ℕ → List ℕ → Type 0
+InRow rs row hs = (x : ℕ) → x < 3 → (lowAt rs row x ≤ getD hs x 0) × (getD hs x 0 < highAt rs row x)
+
+-- Behind the rows the first move of each mode; and behind those, for each move, the next one from the same mode.
+abbrev pub firstOf : List ℕ → ℕ → ℕ
+firstOf rs m = getD rs (480 + m) 0
+
+abbrev pub afterOf : List ℕ → ℕ → ℕ
+afterOf rs e = getD rs (496 + e) 0
+
+-- No move.
+abbrev pub none : ℕ
+none = 64
+
+-- Move r is the first from e on that leaves mode m, or none does and r is 64.
+pub record FirstFrom (a : Automaton) (m e r : ℕ) : Type 0 where
+  pub from : e ≤ r
+  pub few : r ≤ none
+  pub there : r < none → (r < length (a .moves)) × (moveAt a r .source ≡ m)
+  pub none-before : (k : ℕ) → e ≤ k → k < r → k < length (a .moves) → moveAt a k .source ≢ m
+
+-- The row has the windows of the conditions.
+pub record IsRow (rs : List ℕ) (row : ℕ) (cs : List Condition) : Type 0 where
+  pub low : (x : ℕ) → x < 3 → lowAt rs row x ≡ lowOf cs x
+  pub high : (x : ℕ) → x < 3 → highAt rs row x ≡ highOf cs x
+
+-- The bytes are the rules of the table t. What is behind the last mode, and behind the last move, is 0.
+pub record IsRules (t rs : List ℕ) : Type 0 where
+  pub size : length rs ≡ 560
+  pub invariants : (m : ℕ) → m < length (automatonOf t .modes) → IsRow rs m (modeAt (automatonOf t) m .conditions)
+  pub guards : (e : ℕ) → e < length (automatonOf t .moves) → IsRow rs (16 + e) (moveAt (automatonOf t) e .conditions)
+  pub first : (m : ℕ) → m < length (automatonOf t .modes) → FirstFrom (automatonOf t) m 0 (firstOf rs m)
+  pub after : (e : ℕ) → e < length (automatonOf t .moves) → FirstFrom (automatonOf t) (moveAt (automatonOf t) e .source) (e + 1) (afterOf rs e)
+  pub spare-modes : (m i : ℕ) → length (automatonOf t .modes) ≤ m → m < 16 → i < 6 → (getD rs (6 * m + i) 0 ≡ 0) × (firstOf rs m ≡ 0)
+  pub spare-moves : (e i : ℕ) → length (automatonOf t .moves) ≤ e → e < 64 → i < 6 → (getD rs (6 * (16 + e) + i) 0 ≡ 0) × (afterOf rs e ≡ 0)

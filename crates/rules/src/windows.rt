@@ -1,0 +1,73 @@
+// The windows of condition bytes, in half minutes.
+ghost use mathlib.Core.Path.{_≡_};
+ghost use Prim.Native.Nat.{_/_, _%_, _<_, max, min};
+ghost use Rattle.semantics.specs.Regions.Windows.{lowest, above};
+ghost use Rattle.reader.specs.Meaning.{comparisonOf, conditionOf, conditionsFrom};
+ghost use Rattle.rules.specs.Making.{rowOf, narrow};
+use crate::ROW;
+
+// No timer stands so far on.
+const FREE: u8 = 255;
+
+// The windows of the six conditions of a mode or a move, where 0 is none.
+pub fn windows(conditions: [u8; ROW]) -> [u8; ROW]
+    ensures { λ r. ⌜ r ≡ rowOf (conditionsFrom 0 conditions) ⌝ }
+{
+    let mut row = [0, FREE, 0, FREE, 0, FREE];
+    for i in 0..ROW {
+        let condition = conditions[i];
+        if condition != 0 {
+            let next = narrowed(row, i % 3, condition);
+            row = next;
+        }
+    }
+    row
+}
+
+// With one condition more.
+fn narrowed(row: [u8; ROW], timer: usize, condition: u8) -> [u8; ROW]
+    requires { ⌜ timer < 3 ⌝ }
+    ensures { λ r. ⌜ r ≡ narrow row (conditionOf timer condition) ⌝ }
+{
+    let mut next = row;
+    let at = 2 * timer;
+    next[at] = larger(row[at], lowest(condition));
+    next[at + 1] = smaller(row[at + 1], above(condition));
+    next
+}
+
+// The lowest place at which a condition holds. Code 0, which no table has, is read as code 1.
+fn lowest(condition: u8) -> u8
+    ensures { λ r. ⌜ r ≡ lowest (comparisonOf (condition / 16)) (condition % 16) ⌝ }
+{
+    let value = 2 * (condition % 16);
+    match condition / 16 {
+        0..=2 => 0,
+        3 | 4 => value,
+        _ => value + 1,
+    }
+}
+
+// The first place above it at which it does not hold.
+fn above(condition: u8) -> u8
+    ensures { λ r. ⌜ r ≡ above (comparisonOf (condition / 16)) (condition % 16) ⌝ }
+{
+    let value = 2 * (condition % 16);
+    match condition / 16 {
+        0 | 1 => value,
+        2 | 3 => value + 1,
+        _ => FREE,
+    }
+}
+
+fn larger(a: u8, b: u8) -> u8
+    ensures { λ r. ⌜ r ≡ max a b ⌝ }
+{
+    if a < b { b } else { a }
+}
+
+fn smaller(a: u8, b: u8) -> u8
+    ensures { λ r. ⌜ r ≡ min a b ⌝ }
+{
+    if b < a { b } else { a }
+}

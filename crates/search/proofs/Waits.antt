@@ -1,0 +1,114 @@
+-- Linger and then delay from the node in hand: the tests of the code are those of the step, and after both its edges of waiting are relaxed.
+-- Assumes nothing.
+use mathlib.Core.Path.{_≡_, refl, sym, ap, _∙_}
+use mathlib.Core.Bool.{Bool, true, false, true≢false}
+use mathlib.Core.Logic.{_↔_, _⊎_, inl, inr, ⊎-elim}
+use mathlib.Core.List.{List}
+use Prim.Native.Nat.{ℕ, _+_}
+use native.Mathlib.Omega.{arith}
+use borrow.Author.Tests.{lt-ltb, le-ltb}
+use lib.Dec.{ltb}
+use lib.ListN.{take}
+use Rattle.semantics.specs.Automaton.{modeAt}
+use Rattle.semantics.specs.Region.{top, noZero, delay, within, meetsAll}
+use Rattle.semantics.specs.Nodes.Node.{nodeOf, nodeNumber}
+use Rattle.semantics.specs.Graph.Path.{Edge, Leaves}
+use Rattle.semantics.specs.Answers.Waiting.{delayedTo}
+use Rattle.semantics.specs.Answers.WaitingNodes.{wait-label}
+use Rattle.reader.specs.Held.{automatonOf}
+use Rattle.rules.specs.Rules.{InRow}
+use Rattle.regions.specs.declared.Region.{Region}
+use Rattle.regions.specs.declared.nodes.NodeRegion.{NodeRegion}
+use Rattle.regions.specs.Held.{pack, view}
+use Rattle.search.specs.declared.space.Space.{Space}
+use Rattle.search.specs.Space.{graphOf, placeAt}
+use Rattle.search.specs.Exploring.{relaxes-then}
+use Rattle.search.specs.Edges.{IsWait, EdgesReady, EdgesDone}
+use Rattle.search.specs.Waits.{IsDelay, IsLinger, WaitReady, WaitDone, DelayReady}
+use Rattle.search.proofs.Settings.{halvesOf, corner-leaves}
+use Rattle.search.proofs.Delayed.{delayed-seen, delayed-fewer, delayed-within, delayed-meets, delayed-number}
+use Rattle.search.proofs.WaitEdges.{keep-top, delay-allowed}
+use Rattle.search.proofs.WaitRelaxing.{relaxes-fewer, wait-again}
+
+-- What the code finds at first: the region after a delay, its highest group and that of the region before, and the rate.
+pub record Looked (t : List ℕ) (z : NodeRegion) (delayed : Region) (new old rate : ℕ) : Type 0 where
+  pub is : delayed ≡ pack (delay 0 (view (z .region)))
+  pub new-is : new ≡ top (view delayed)
+  pub old-is : old ≡ top (view (z .region))
+  pub rate-is : rate ≡ modeAt (automatonOf t) (z .mode) .rate
+
+-- And then: that region is within the ceilings, and where its timers stand.
+pub record Stands (s : Space) (delayed : Region) (hs : List ℕ) : Type 0 where
+  pub inside : within (take (delayed .timers) (s .ceilings)) (view delayed) ≡ true
+  pub halves-are : hs ≡ halvesOf (view delayed)
+
+module _ {t rs : List ℕ} {s : Space} {z : NodeRegion} {ws : List ℕ} (r : EdgesReady t rs s z ws) {delayed : Region} {new old rate : ℕ}
+    (k : Looked t z delayed new old rate) where
+  -- The test of the ceilings.
+  within-same :
+      within (take (delayed .timers) (s .ceilings)) (view delayed) ≡ within (automatonOf t .ceilings) (delayedTo (placeAt z) .region)
+  within-same = delayed-within (r .setting) (r .corner) delayed (k .is)
+
+  -- A corner is taken away just if r0 is empty.
+  empty-is : ltb new old ≡ noZero (view (z .region))
+  empty-is = go (noZero (view (z .region))) refl
+    where
+      go : (b : Bool) → noZero (view (z .region)) ≡ b → ltb new old ≡ b
+      go true e = lt-ltb new old (omega (arith, k .new-is, k .old-is, delayed-fewer (r .setting) (r .corner) delayed (k .is) .0 e))
+      go false e =
+          let rose = keep-top (view (z .region)) (r .corner .place .well-formed) (r .corner .indexed) e in
+          le-ltb new old (omega (arith, k .new-is, k .old-is, ap top (delayed-seen (r .setting) (r .corner) delayed (k .is)), rose))
+
+  pub waits-ready : WaitReady (s .nodes) z (ltb new old) rate ws
+  waits-ready = record { table = t; rules = rs; space = s; edges = r; nodes-are = refl; empty-is = empty-is; rate-is = k .rate-is }
+
+  -- After linger there is delay.
+  module _ {ws′ : List ℕ} (lingered : (w : WaitReady (s .nodes) z (ltb new old) rate ws) → WaitDone IsLinger w ws′) where
+    one : EdgesDone IsLinger t s z ws ws′
+    unfolding waits-ready
+    one = lingered waits-ready
+
+    label : (goal : ℕ) (e : Edge) → Leaves (graphOf t goal) (z .first + z .index) e → IsWait e → IsDelay e ⊎ IsLinger e
+    label goal e l w =
+        wait-label (automatonOf t) goal (placeAt z) (r .corner .place) (z .index) (r .corner .inside) e (corner-leaves (r .corner) goal e l) w
+
+    -- Where it is not allowed there is nothing more to do.
+    waits-none : ((goal : ℕ) (e : Edge) → Leaves (graphOf t goal) (z .first + z .index) e → IsDelay e → ⊥) → EdgesDone IsWait t s z ws ws′
+    waits-none none goal hand =
+        relaxes-fewer IsWait (one goal hand) (λ e l w. ⊎-elim (λ q. absurd (none goal e l q)) (λ q. q) (label goal e l w))
+
+    pub waits-outside : within (take (delayed .timers) (s .ceilings)) (view delayed) ≡ false → EdgesDone IsWait t s z ws ws′
+    waits-outside f =
+        waits-none
+        (λ goal e l q. true≢false (sym (delay-allowed (r .corner) goal e l q .ceilings) ∙ sym within-same ∙ f))
+
+    module _ {hs : List ℕ} (h : Stands s delayed hs) where
+      inside : within (automatonOf t .ceilings) (delayedTo (placeAt z) .region) ≡ true
+      inside = sym within-same ∙ h .inside
+
+      window : InRow rs (z .mode) hs ↔ (meetsAll (modeAt (automatonOf t) (z .mode) .conditions) (delayedTo (placeAt z) .region) ≡ true)
+      window = delayed-meets (r .setting) (r .corner) delayed (k .is) inside hs (h .halves-are)
+
+      pub waits-unmet : (InRow rs (z .mode) hs → ⊥) → EdgesDone IsWait t s z ws ws′
+      waits-unmet unmet = waits-none (λ goal e l q. unmet (window .1 (delay-allowed (r .corner) goal e l q .conditions)))
+
+      -- Where it is, it follows.
+      module _ (met : InRow rs (z .mode) hs) (to : ℕ)
+          (to-is : to ≡ nodeNumber (take (delayed .timers) (s .ceilings)) (nodeOf (z .mode) (view delayed) 0)) where
+        pub delays-ready : DelayReady (s .nodes) z to (ltb new old) rate ws′
+        unfolding waits-ready
+        delays-ready = record {
+          wait = wait-again waits-ready (one (r .goal) (r .hand) .hand);
+          conditions = window .0 met;
+          ceilings = inside;
+          to-is = to-is ∙ delayed-number (r .setting) (r .corner) delayed (k .is);
+        }
+
+        pub waits-done :
+            {ws″ : List ℕ}
+            → ((d : DelayReady (s .nodes) z to (ltb new old) rate ws′) → WaitDone IsDelay (d .wait) ws″)
+            → EdgesDone IsWait t s z ws ws″
+        unfolding delays-ready waits-ready
+        waits-done delays goal hand =
+            let kept = one goal hand in
+            relaxes-then IsWait kept (delays delays-ready goal (kept .hand)) (λ e l w. ⊎-elim (λ q. inr q) (λ q. inl q) (label goal e l w))

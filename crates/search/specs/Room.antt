@@ -1,0 +1,26 @@
+-- What an edge of the node in hand offers is below infinity.
+-- Assumes nothing.
+use mathlib.Core.List.{List}
+use Prim.Native.Nat.{ℕ, _+_, _*_, _≤_, _<_}
+use native.Mathlib.Nat.{mul-le-mul-right}
+use native.Mathlib.Omega.{arith}
+use Rattle.semantics.specs.Graph.Path.{Graph, WeightsWithin, infinity, chargeAt, stepsAt}
+use Rattle.semantics.specs.Paths.Loops.{path-charge}
+use Rattle.semantics.specs.Paths.Turned.{turned-nodes, turned-closed, turned-light}
+use Rattle.semantics.specs.Graph.Near.{turned}
+use Rattle.queue.specs.Queue.{lows}
+use Rattle.search.specs.Exploring.{InHand, hand-entry}
+
+module _ {g : Graph} {s nodes u : ℕ} {ws : List ℕ} (h : InHand g s nodes u ws) where
+  hand-steps : stepsAt (lows nodes ws) u < nodes
+  hand-steps = omega (arith, h .sized, h .settling .costs .few u _ (omega (arith, h .inside, h .sized)) (hand-entry h))
+
+  -- With prices of at most 16 bits.
+  pub hand-room : (w weight : ℕ) → WeightsWithin g w → w ≤ 65535 → weight ≤ w → weight + chargeAt (lows nodes ws) u < infinity
+  hand-room w weight light small within =
+      let inside : u < g .nodes = omega (arith, h .inside, h .sized) in
+      let r = h .settling .costs .attained u _ inside (hand-entry h) in
+      let most : chargeAt (lows nodes ws) u ≤ stepsAt (lows nodes ws) u * w =
+      rw (r .charged, r .counted) at (path-charge (turned g s) (turned-closed g s) w (turned-light g s w light) u (r .path) (rw (turned-nodes g s) inside) (r .is-path)) in
+      let few : stepsAt (lows nodes ws) u ≤ 65534 = omega (arith, hand-steps, h .queue .words .few) in
+      omega (arith, most, mul-le-mul-right w few)

@@ -1,0 +1,41 @@
+// The search in Dijkstra's order.
+ghost use Rattle.search.specs.Finding.{FindReady, FoundGoal};
+use crate::INFINITY;
+use crate::edges;
+use crate::near::Cost;
+use crate::space::Space;
+use reader::table::TABLE;
+use regions::nodes;
+use rules::RULES;
+
+// Settles the nodes in the order of their costs up to the first of the goal, whose cost it gives: both INFINITY if there is none.
+pub fn settle_all(
+    words: &mut [u32],
+    space: Space,
+    table: &[u8; TABLE],
+    rules: &[u8; RULES],
+    goal: usize,
+) -> Cost
+    requires { ⌜ FindReady (now table) (now rules) space goal (now words) ⌝ }
+    ensures { λ r. ⌜ FoundGoal (now (table .entry)) space goal (now (words .entry)) (now (words .exit)) r ⌝ }
+{
+    let ceilings = space.ceilings;
+    let mut node = queue::first(words);
+    while node < space.nodes {
+        let at = nodes::region_at(space.timers, ceilings, node);
+        if at.mode == goal {
+            return Cost {
+                charge: queue::charge_of(words, node),
+                steps: queue::steps_of(words, node),
+            };
+        }
+        queue::settle(words, space.nodes, node);
+        edges::relax_waits(words, space, table, rules, at);
+        edges::relax_moves(words, space, table, rules, at);
+        node = queue::first(words);
+    }
+    Cost {
+        charge: INFINITY,
+        steps: INFINITY,
+    }
+}

@@ -1,0 +1,4 @@
+-- What the contract of a step means.
+pub mod Steps
+-- And those of its private functions.
+pub mod Leading

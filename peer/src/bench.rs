@@ -4,6 +4,7 @@ use crate::call::{Call, Planner, PLANNERS};
 use crate::measure::{heap_bytes, instructions, stack_bytes};
 use crate::paper::Outcome;
 use crate::table::{node_count, read};
+use std::path::Path;
 use std::process::ExitCode;
 use std::time::{Duration, Instant};
 
@@ -14,12 +15,13 @@ macro_rules! tables {
 }
 
 /// The tables that are measured: name, and bytes in hexadecimal with comments after `#`.
-const TABLES: [(&str, &str); 19] = tables![
+const TABLES: [(&str, &str); 22] = tables![
     "T" "figure-2"
     "one-timer-narrow-24" "one-timer-narrow-64" "one-timer-wide-24" "one-timer-wide-64"
     "unit-24" "unit-64" "two-timers-wide-24" "two-timers-wide-64"
     "three-timers-narrow-24" "three-timers-narrow-64" "three-timers-wide-24" "three-timers-wide-64"
     "worst-one-timer" "worst-two-timers" "worst-three-timers"
+    "bred-one-timer" "bred-two-timers" "bred-three-timers"
     "largest-narrow-64" "largest-wide-64"
 ];
 
@@ -42,10 +44,10 @@ extern "C" fn peer_measured(call: &mut Call) {
     call.make();
 }
 
-/// The instructions of a call, as valgrind counts them; the table is told by its name or in
-/// hexadecimal. None if there is no valgrind.
-pub fn instructions_of(table: &str, planner: Planner) -> Option<u64> {
-    instructions(MEASURED, &["measured", table, planner.name()])
+/// The instructions of a call in this or another build of peer, as valgrind counts them; the table
+/// is told by its name or in hexadecimal. None if there is no valgrind.
+pub fn instructions_of(peer: &Path, table: &str, planner: Planner) -> Option<u64> {
+    instructions(peer, MEASURED, &["measured", table, planner.name()])
 }
 
 /// Makes a first call outside of what is measured, of T, and one inside. It is run by valgrind.
@@ -114,7 +116,8 @@ fn row(name: &str, bytes: &[u8]) -> Result<Vec<String>, String> {
             cells.extend(["gave up", "-", "-", "-"].map(String::from));
             continue;
         }
-        let counted = instructions_of(name, call.planner);
+        let peer = std::env::current_exe().ok();
+        let counted = peer.and_then(|peer| instructions_of(&peer, name, call.planner));
         cells.push(counted.map_or("-".into(), grouped));
         cells.push(format!("{:.1}", time.as_secs_f64() * 1e6));
         cells.push(grouped(stack_bytes(|| call.make()) as u64));

@@ -1,6 +1,7 @@
 //! Cross-checks the proved planner against two independent ones, and measures all three.
 
 mod bench;
+mod blocks;
 mod call;
 mod dijkstra;
 mod draft;
@@ -8,7 +9,6 @@ mod fuzz;
 mod generate;
 mod grid;
 mod measure;
-mod meter;
 mod paper;
 mod proved;
 mod random;
@@ -23,8 +23,9 @@ const USAGE: &str = "usage:
   peer fuzz SEED COUNT   compare the planners on COUNT tables drawn from SEED
   peer bench             measure the planners on the tables of the folder tables
   peer worst SEED SECONDS [TIMERS]
-                         breed tables that are costly for the proved planner, for so long, and
-                         print the costliest as a file of that folder";
+                         breed tables that are costly for the proved planner, for so many seconds of
+                         processor time, and print the costliest as a file of that folder; this needs
+                         the feature counted, with which run-peer builds";
 
 fn main() -> ExitCode {
     let arguments: Vec<String> = std::env::args().skip(1).collect();
@@ -36,7 +37,7 @@ fn main() -> ExitCode {
             }
         }
         ["bench"] => return bench::run(),
-        ["worst", seed, seconds, ref timers @ ..] => {
+        ["worst", seed, seconds, ref timers @ ..] if cfg!(feature = "counted") => {
             if let (Ok(seed), Ok(seconds), Some(timers)) =
                 (seed.parse(), seconds.parse(), timers_of(timers))
             {

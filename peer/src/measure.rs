@@ -1,6 +1,7 @@
 //! How much heap and stack a call takes, and how many instructions.
 
 use std::alloc::{GlobalAlloc, Layout, System};
+use std::path::Path;
 use std::process::Command;
 use std::sync::atomic::{AtomicUsize, Ordering::Relaxed};
 
@@ -91,13 +92,13 @@ extern "C" fn trampoline(call: &mut &mut dyn FnMut()) {
     call();
 }
 
-/// The instructions that this program, run with these arguments, executes inside the function of
-/// this name, as valgrind counts them. None if there is no valgrind.
-pub fn instructions(function: &str, arguments: &[&str]) -> Option<u64> {
+/// The instructions that a program, run with these arguments, executes inside the function of this
+/// name, as valgrind counts them. None if there is no valgrind.
+pub fn instructions(program: &Path, function: &str, arguments: &[&str]) -> Option<u64> {
     let output = Command::new("valgrind")
         .args(["--tool=callgrind", "--collect-atstart=no", "--callgrind-out-file=/dev/null"])
         .arg(format!("--toggle-collect={function}"))
-        .arg(std::env::current_exe().ok()?)
+        .arg(program)
         .args(arguments)
         .output()
         .ok()?;

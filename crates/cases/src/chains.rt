@@ -1,18 +1,18 @@
 // `chain STEP STEP ..: TABLE`: the places of a chain, and what the words of a search say of each.
 ghost use Prim.Native.Nat.{_-_, _<_, _≤_};
 ghost use Rattle.reader.specs.Held.{IsTable};
-ghost use Rattle.cases.specs.Kept.{OnChain};
-use crate::places;
-use crate::places::Place;
-use crate::print;
-use crate::scripts;
+ghost use Rattle.region_cases.specs.Kept.{OnChain};
 use crate::searches;
-use crate::tokens;
-use crate::tokens::TOKENS;
 use reader::table;
 use reader::table::TABLE;
+use region_cases::places;
+use region_cases::places::Place;
+use region_cases::scripts;
 use regions::Region;
 use regions::nodes;
+use script::print;
+use script::tokens;
+use script::tokens::TOKENS;
 use search::Searched;
 
 const WORDS: usize = 6000;

@@ -1,20 +1,18 @@
 // Runs the script on standard input, a case to a line, and prints what comes out. The script's first lines say how a case is written.
 mod chains;
-mod corners;
-mod operations;
-mod places;
 mod plans;
-mod print;
 mod readings;
-mod scripts;
 mod searches;
-mod tokens;
 
 ghost use Rattle.reader.specs.Held.{IsTable};
 use libc::STDIN_FILENO;
 use reader::Verdict;
 use reader::table::TABLE;
-use tokens::TOKENS;
+use region_cases::corners;
+use region_cases::scripts;
+use script::print;
+use script::tokens;
+use script::tokens::TOKENS;
 
 // Of a script the first 65,536 bytes are run.
 fn main() {

@@ -2,9 +2,9 @@
 // after the call each of them is looked at, also behind the parts that were lent.
 ghost use mathlib.Core.Path.{_≡_};
 ghost use lib.ListN.{length};
-use crate::print;
 use report::Written;
 use route::Answer;
+use script::print;
 
 const WORDS: usize = 129600;
 

@@ -1,10 +1,10 @@
 // `read: TABLE`: the counts, the goal and E of the table that the reader takes the bytes for.
 ghost use Rattle.reader.specs.Held.{IsTable};
-use crate::print;
 use reader::table;
 use reader::table::TABLE;
 use regions::nodes;
 use regions::nodes::Nodes;
+use script::print;
 
 pub fn read(table: &[u8; TABLE])
     requires { ⌜ IsTable (now table) ⌝ }

@@ -1,7 +1,7 @@
 -- What storing a slot does, and matches by the keys in the words.
 -- Assumes nothing.
 use mathlib.Core.Path.{_≡_, refl, sym, ap, _∙_, subst}
-use mathlib.Core.Logic.{_⊎_, inl, inr, _≢_, ⊎-elim}
+use mathlib.Core.Logic.{inl, inr, _≢_}
 use mathlib.Core.List.{List}
 use Prim.Native.Nat.{ℕ, _+_, _*_, _/_, _%_, _≤_, _<_}
 use native.Mathlib.Decide.{ℕ-discrete}
@@ -26,6 +26,11 @@ match-right keys a b h = record { one = inr refl; left = h; right = before-refl 
 pub seat-words : (ws : List ℕ) (a : ℕ) → Seat ws a → a ≢ none → (a < none) × (2 * a + 1 < length ws)
 seat-words ws a (inl e) n = absurd (n e)
 seat-words ws a (inr h) n = h
+
+-- The keys of the nodes are the same by their words and by the costs in them.
+pub key-lows : (nodes : ℕ) (ws ts : List ℕ) (v : ℕ) → lows nodes ws ≡ ts → v < nodes → key ts v ≡ keyIn ws v
+key-lows nodes ws ts v e h =
+    subst (λ (us : List ℕ). key us v ≡ keyIn ws v) e (rw (lows-charge nodes ws v, lows-steps nodes ws v h))
 
 module _ (nodes : ℕ) (ws : List ℕ) (words : QueueRoom nodes ws) where
   pub seat : (a : ℕ) → Seated nodes a → Seat ws a
@@ -59,20 +64,3 @@ module _ (nodes : ℕ) (ws : List ℕ) (words : QueueRoom nodes ws) where
         at z o k (yes e) =
             subst (λ (a : ℕ). Seated nodes a) (sym (subst (λ (y : ℕ). slotAt (put ws x b) y ≡ b) (sym e) (put-puts .at-x))) s
         at z o k (no n) = subst (λ (a : ℕ). Seated nodes a) (sym (put-puts .others z n)) (words .slots z o k)
-
-  pub key-lows : (v : ℕ) → v < nodes → key (lows nodes ws) v ≡ keyIn ws v
-  key-lows v h = rw (lows-charge nodes ws v, lows-steps nodes ws v h)
-
-  -- Two nodes are in the order of their keys in the words.
-  before-lows : (a b : ℕ) → Seated nodes a → Seated nodes b → Before (λ v. keyIn ws v) a b → Before (λ v. key (lows nodes ws) v) a b
-  before-lows a b s t (inl e) = inl e
-  before-lows a b s (inl e) (inr h) = inl e
-  before-lows a b (inl e) (inr k) (inr h) = absurd (h .0 e)
-  before-lows a b (inr j) (inr k) (inr h) = inr (h .0, omega (arith, h .1, key-lows a j, key-lows b k))
-
-  pub match-lows :
-      (a b r : ℕ) → Seated nodes a → Seated nodes b → Match (λ v. keyIn ws v) a b r → Match (λ v. key (lows nodes ws) v) a b r
-  match-lows a b r s t m =
-      let w : Seated nodes r =
-      ⊎-elim (λ e. subst (λ (x : ℕ). Seated nodes x) (sym e) s) (λ e. subst (λ (x : ℕ). Seated nodes x) (sym e) t) (m .one) in
-      record { one = m .one; left = before-lows r a w s (m .left); right = before-lows r b w t (m .right) }

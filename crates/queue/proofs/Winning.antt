@@ -1,6 +1,6 @@
 -- The winner at a place, as the code finds it.
 -- Assumes nothing.
-use mathlib.Core.Path.{_≡_, sym, _∙_, subst}
+use mathlib.Core.Path.{_≡_, refl, sym, _∙_, subst}
 use mathlib.Core.Logic.{_⊎_, inl, inr, _≢_}
 use mathlib.Core.List.{List}
 use Prim.Native.Nat.{ℕ, suc, _*_, _-_, _≤_, _<_}
@@ -36,14 +36,14 @@ module _ (nodes : ℕ) (ws : List ℕ) (words : QueueRoom nodes ws) (settled z :
         sym
         (won-leaf h
         ∙ entrant-in (suc settled) (lows nodes ws) (z - nodes)
-        ((λ e. n (sym (lows-charge nodes ws (z - nodes)) ∙ e)), omega (arith, key-lows nodes ws words (z - nodes) (omega arith))))
+        ((λ e. n (sym (lows-charge nodes ws (z - nodes)) ∙ e)), omega (arith, key-lows nodes ws (lows nodes ws) (z - nodes) refl (omega arith))))
 
     pub won-settled : keyIn ws (z - nodes) ≤ settled → none ≡ won
     won-settled less =
         sym
         (won-leaf h
         ∙ entrant-out (suc settled) (lows nodes ws) (z - nodes)
-        (λ p. omega (arith, p .1, key-lows nodes ws words (z - nodes) (omega arith))))
+        (λ p. omega (arith, p .1, key-lows nodes ws (lows nodes ws) (z - nodes) refl (omega arith))))
 
   pub won-seated : 1 ≤ z → z < 2 * nodes → Seated nodes won
   won-seated one h = at (decLt z nodes)

@@ -1,7 +1,8 @@
 -- What the private functions of the queue ask and do.
 -- Assumes nothing.
 use mathlib.Core.Path.{_≡_}
-use mathlib.Core.Logic.{_⊎_}
+use mathlib.Core.Bool.{Bool, true, false}
+use mathlib.Core.Logic.{_⊎_, _≢_}
 use mathlib.Core.List.{List}
 use Prim.Native.Nat.{ℕ, _+_, _*_, _/_, _%_, _≤_, _<_}
 use lib.ListN.{length, set}
@@ -17,6 +18,23 @@ keyIn ws v = keyOf (chargeAt ws v) (stepsAt ws v % 65536) v
 -- a is nobody, or a node that has words.
 abbrev pub Seat : List ℕ → ℕ → Type 0
 Seat ws a = (a ≡ none) ⊎ ((a < none) × (2 * a + 1 < length ws))
+
+-- The key of nobody, greater than that of any node.
+abbrev pub noKey : ℕ
+noKey = 0xFFFF_FFFF_FFFF_FFFF
+
+-- a is a node that comes before a key.
+abbrev pub Ahead : List ℕ → ℕ → ℕ → Type 0
+Ahead ws a own = (a ≢ none) × (keyIn ws a < own)
+
+-- It does not: a is nobody, or a node whose key is no less; and then the other is no key of nobody.
+abbrev pub Behind : List ℕ → ℕ → ℕ → Type 0
+Behind ws a own = (a ≡ none) ⊎ ((own ≤ keyIn ws a) × (own < noKey))
+
+-- A test tells which of the two it is.
+pub record Told (ws : List ℕ) (a own : ℕ) (r : Bool) : Type 0 where
+  pub ahead : r ≡ true → Ahead ws a own
+  pub behind : r ≡ false → Behind ws a own
 
 -- The words with b in slot x.
 abbrev pub put : List ℕ → ℕ → ℕ → List ℕ

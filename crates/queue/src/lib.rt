@@ -4,12 +4,12 @@ ghost use mathlib.Core.Path.{_≡_};
 ghost use Prim.Native.Nat.{suc, _+_, _*_, _%_, _≤_, _<_};
 ghost use lib.ListN.{length};
 ghost use Rattle.semantics.specs.Graph.Path.{chargeAt, stepsAt};
-ghost use Rattle.queue.specs.Tournament.{none, Match, winner};
+ghost use Rattle.queue.specs.Tournament.{none, winner};
 ghost use Rattle.queue.specs.Queue.{lows, slotAt, players, QueueRoom, RelaxReady, RelaxDone, LowerReady, LowerDone, SettleReady, SettleDone};
-ghost use Rattle.queue.specs.Playing.{keyIn, Seat, put, Place, GoneUp};
+ghost use Rattle.queue.specs.Playing.{keyIn, Seat, Told, put, Place, GoneUp};
 
 // Nobody: what a slot holds if no node below it is pending.
-pub const NONE: usize = 0xFFFF;
+const NONE: usize = 0xFFFF;
 
 // The charge of an unreached node.
 const INFINITY: u32 = 0xFFFF_FFFF;
@@ -17,12 +17,16 @@ const INFINITY: u32 = 0xFFFF_FFFF;
 // The high half of a word counts this much.
 const HALF: u32 = 0x1_0000;
 
+// The key of nobody, greater than that of any node.
+const NO_KEY: u64 = 0xFFFF_FFFF_FFFF_FFFF;
+
 // The charge of a node.
 pub fn charge_of(words: &[u32], node: usize) -> u32
     requires { ⌜ 2 * node + 1 < length (now words) ⌝ }
     ensures { λ r. ⌜ r ≡ chargeAt (now (words .entry)) node ⌝ }
 {
-    words[2 * node]
+    let at = 2 * node;
+    words[at]
 }
 
 // Its steps.
@@ -66,18 +70,15 @@ pub fn first(words: &[u32]) -> usize
     slot(words, 1)
 }
 
-// The winner of a match.
-fn play(words: &[u32], a: usize, b: usize) -> usize
-    requires { ⌜ Seat (now words) a × Seat (now words) b ⌝ }
-    ensures { λ r. ⌜ Match (λ v. keyIn (now (words .entry)) v) a b r ⌝ }
+// Whether who is in a slot comes before this key; nobody does not.
+fn ahead(words: &[u32], node: usize, own: u64) -> bool
+    requires { ⌜ Seat (now words) node ⌝ }
+    ensures { λ r. ⌜ Told (now (words .entry)) node own r ⌝ }
 {
-    if a == NONE {
-        return b;
+    if node == NONE {
+        return false;
     }
-    if b == NONE {
-        return a;
-    }
-    if key(words, b) < key(words, a) { b } else { a }
+    key(words, node) < own
 }
 
 // The winner at a place, if all keys up to `settled` are settled.
@@ -104,10 +105,10 @@ fn raise(words: &mut [u32], nodes: usize, node: usize)
     requires { ⌜ QueueRoom nodes (now words) × (node < nodes) ⌝ }
     ensures { λ _. ⌜ GoneUp nodes node (now (words .entry)) (now (words .exit)) ⌝ }
 {
+    let own = key(words, node);
     let mut place = (nodes + node) / 2;
     while 0 < place {
-        let other = slot(words, place);
-        if play(words, node, other) != node {
+        if ahead(words, slot(words, place), own) {
             return;
         }
         set_slot(words, place, node);
@@ -151,22 +152,16 @@ pub fn settle(words: &mut [u32], nodes: usize, node: usize)
     let settled = key(words, node);
     let mut place = nodes + node;
     let mut best = NONE;
+    let mut least = NO_KEY;
     while 1 < place {
         let up = place / 2;
         // The two places below `up` are 2 × up and 2 × up + 1.
         let other = winner(words, nodes, 4 * up + 1 - place, settled);
-        best = play(words, best, other);
+        if ahead(words, other, least) {
+            best = other;
+            least = key(words, other);
+        }
         set_slot(words, up, best);
         place = up;
-    }
-}
-
-// The slots go: what is left of the words are the costs.
-pub fn clear_slots(words: &mut [u32], nodes: usize)
-    requires { ⌜ 2 * nodes ≤ length (now words) ⌝ }
-    ensures { λ _. ⌜ now (words .exit) ≡ lows nodes (now (words .entry)) ⌝ }
-{
-    for v in 0..nodes {
-        words[2 * v + 1] = words[2 * v + 1] % HALF;
     }
 }

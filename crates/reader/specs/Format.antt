@@ -1,10 +1,10 @@
 -- The reading of a table: document 01, "Bytes of a table", with refusals 1 to 5 of "Refusals in their order".
 -- Assumes nothing.
-use Prim.Native.Nat.{ℕ, _+_, _*_, _-_, _/_, _%_, _^_}
+use Prim.Native.Nat.{ℕ, _-_, _/_, _%_, _^_}
 use mathlib.Core.Bool.{Bool, true, false, cond, _&&_}
-use mathlib.Core.List.{List, [], _∷_}
+use mathlib.Core.List.{List}
 use lib.Dec.{leb, ltb, eqb}
-use Rattle.reader.specs.Parser.{Parser, done, refuse, byte, _>>=_, inOrder, Outcome, refused, took, run}
+use Rattle.reader.specs.Parser.{Parser, done, refuse, byte, _>>=_, inOrder}
 use Rattle.reader.specs.Fields.{ModeFields, MoveFields, Fields}
 
 -- A byte from low to high; any other is refused by the number.

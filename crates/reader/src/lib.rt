@@ -11,12 +11,8 @@ mod records;
 mod start;
 pub mod table;
 
-// "modes m, 1 to 16", "timers n, 1 to 3", "moves e, 0 to 64".
-pub const MOST_MODES: usize = 16;
-
+// "timers n, 1 to 3".
 pub const MOST_TIMERS: usize = 3;
-
-pub const MOST_MOVES: usize = 64;
 
 // Conditions of a mode or a move: two for each of three timers.
 pub const CONDITIONS: usize = 6;

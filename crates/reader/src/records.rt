@@ -215,7 +215,7 @@ fn move_record(
     resets(bytes, p.next, map.value, timers, table, at + RESETS)
 }
 
-// The mode records, one after another.
+// The mode records, one after another. The unit's core multiplies in 32 bits.
 fn mode_records(bytes: &[u8], from: usize, timers: u8, modes: u8, table: &mut [u8; TABLE]) -> Next
     requires { ⌜ (timers ≤ 3) × (modes ≤ 16) ⌝ }
     ensures { λ r. ⌜
@@ -225,7 +225,8 @@ fn mode_records(bytes: &[u8], from: usize, timers: u8, modes: u8, table: &mut [u
 {
     let mut next = from;
     for i in 0..modes as usize {
-        let m = mode_record(bytes, next, timers, table, MODE_RECORDS + MODE_STRIDE * i);
+        let at = MODE_RECORDS + (MODE_STRIDE as u32 * i as u32) as usize;
+        let m = mode_record(bytes, next, timers, table, at);
         if m.refusal != 0 {
             return m;
         }
@@ -251,14 +252,8 @@ fn move_records(
 {
     let mut next = from;
     for i in 0..moves as usize {
-        let e = move_record(
-            bytes,
-            next,
-            modes,
-            timers,
-            table,
-            MOVE_RECORDS + MOVE_STRIDE * i,
-        );
+        let at = MOVE_RECORDS + (MOVE_STRIDE as u32 * i as u32) as usize;
+        let e = move_record(bytes, next, modes, timers, table, at);
         if e.refusal != 0 {
             return e;
         }

@@ -4,7 +4,7 @@ ghost use Prim.Native.Nat.{_+_, _*_, _<_};
 ghost use lib.ListN.{length, getD};
 ghost use Rattle.semantics.specs.Automaton.{timers, modeAt, moveAt};
 ghost use Rattle.reader.specs.Fields.{mostTimers};
-ghost use Rattle.reader.specs.Held.{pad, fieldsOf, automatonOf, modeFieldsAt, moveFieldsAt, IsTable};
+ghost use Rattle.reader.specs.Held.{pad, fieldsOf, automatonOf, moveFieldsAt, IsTable};
 use crate::MOST_TIMERS;
 
 // The bytes of a table.
@@ -93,14 +93,6 @@ pub fn rate(table: &[u8; TABLE], mode: usize) -> u16
     amount(table, MODE_RECORDS + MODE_STRIDE * mode)
 }
 
-// The condition byte of a mode at one of its six places, 0 for none.
-pub fn invariant(table: &[u8; TABLE], mode: usize, place: usize) -> u8
-    requires { ⌜ IsTable (now table) × (mode < length (automatonOf (now table) .modes)) × (place < 6) ⌝ }
-    ensures { λ r. ⌜ r ≡ getD (modeFieldsAt (fieldsOf (now (table .entry))) mode .conditions) place 0 ⌝ }
-{
-    table[MODE_RECORDS + MODE_STRIDE * mode + INVARIANT + place]
-}
-
 // The from mode of a move.
 pub fn source(table: &[u8; TABLE], e: usize) -> usize
     requires { ⌜ IsTable (now table) × (e < length (automatonOf (now table) .moves)) ⌝ }
@@ -125,14 +117,6 @@ pub fn price(table: &[u8; TABLE], e: usize) -> u16
     amount(table, MOVE_RECORDS + MOVE_STRIDE * e + PRICE)
 }
 
-// The condition byte of a move at one of its six places, 0 for none.
-pub fn guard(table: &[u8; TABLE], e: usize, place: usize) -> u8
-    requires { ⌜ IsTable (now table) × (e < length (automatonOf (now table) .moves)) × (place < 6) ⌝ }
-    ensures { λ r. ⌜ r ≡ getD (moveFieldsAt (fieldsOf (now (table .entry))) e .conditions) place 0 ⌝ }
-{
-    table[MOVE_RECORDS + MOVE_STRIDE * e + GUARD + place]
-}
-
 // The byte whose bits name the timers that a move resets.
 pub fn resets(table: &[u8; TABLE], e: usize) -> u8
     requires { ⌜ IsTable (now table) × (e < length (automatonOf (now table) .moves)) ⌝ }
@@ -142,7 +126,7 @@ pub fn resets(table: &[u8; TABLE], e: usize) -> u8
 }
 
 // Two bytes as a number, the low one first.
-pub fn amount(table: &[u8; TABLE], at: usize) -> u16
+fn amount(table: &[u8; TABLE], at: usize) -> u16
     requires { ⌜ (at + 1 < 904) × (getD (now table) at 0 + 256 * getD (now table) (at + 1) 0 < 65536) ⌝ }
     ensures { λ r. ⌜ r ≡ getD (now (table .entry)) at 0 + 256 * getD (now (table .entry)) (at + 1) 0 ⌝ }
 {

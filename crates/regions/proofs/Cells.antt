@@ -1,37 +1,27 @@
--- Cells by their numbers, over arrays of three ceilings.
+-- Nodes by their numbers, over arrays of three ceilings.
 -- Assumes nothing.
 use mathlib.Core.Path.{_≡_, sym, ap, ap₂, _∙_}
-use mathlib.Core.List.{List, [], _∷_}
+use mathlib.Core.List.{List}
 use Prim.Native.Nat.{ℕ, _+_, _*_, _/_, _%_, _≤_}
-use native.Mathlib.Nat.{one-mul, mul-le-mul}
+use native.Mathlib.Nat.{mul-le-mul}
 use native.Mathlib.Omega.{arith}
-use lib.ListN.{length, getD, take}
+use lib.ListN.{length, take}
 use lib.Seq.{length-take-le}
 use Rattle.semantics.specs.Region.{PricedRegion}
-use Rattle.semantics.specs.NodeCount.{cornerCount, factor, cellCount}
+use Rattle.semantics.specs.NodeCount.{cornerCount, cellCount}
 use Rattle.semantics.specs.Corners.Corner.{cornerOf, cornerNumber, cornerAt}
 use Rattle.semantics.specs.Nodes.Node.{cellNumber, cellAt, nodeOf, nodeNumber, nodeAt}
 use Rattle.regions.specs.declared.Region.{Region}
 use Rattle.regions.specs.declared.nodes.NodeAt.{NodeAt}
-use Rattle.regions.specs.Held.{pad, packCorner}
+use Rattle.corners.specs.Held.{packCorner}
+use Rattle.regions.specs.Held.{pad}
 use Rattle.regions.specs.Nodes.{Padded, packNode}
 use Rattle.regions.specs.Laws.Fields.{Holds, timers-is, whole-is}
 use Rattle.regions.specs.Laws.Nodes.{count-padded, number-padded, at-padded}
-use Rattle.regions.proofs.Entries.{array-is}
 
 -- A product of two numbers that have bounds.
 pub product-few : (m n p q : ℕ) → m ≤ p → n ≤ q → m * n ≤ p * q
 product-few m n p q h k = mul-le-mul h k
-
-module _ (l : List ℕ) (three : length l ≡ 3) {a b c : ℕ} (x : a ≡ factor (getD l 0 0)) (y : b ≡ factor (getD l 1 0)) (z : c ≡ factor (getD l 2 0)) where
-  pub count-is : c * b * a ≡ cellCount l
-  count-is = rw (x, y, z, array-is 3 l three) (ap (λ (k : ℕ). k * factor (getD l 1 0) * factor (getD l 0 0)) (sym (one-mul (factor (getD l 2 0)))))
-
-  pub number-is : (w : List ℕ) → length w ≡ 3 → ((0 * c + getD w 2 0) * b + getD w 1 0) * a + getD w 0 0 ≡ cellNumber l w
-  number-is w k = rw (x, y, z, array-is 3 l three, array-is 3 w k)
-
-  pub cell-is : (i : ℕ) → i % a ∷ i / a % b ∷ i / a / b % c ∷ [] ≡ cellAt l i
-  cell-is i = rw (x, y, z, array-is 3 l three)
 
 -- The first n of three ceilings are n.
 ceilings-many : (n : ℕ) (l : List ℕ) → n ≤ 3 → length l ≡ 3 → length (take n l) ≡ n

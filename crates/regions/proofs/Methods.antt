@@ -12,7 +12,7 @@ use Rattle.semantics.specs.Regions.Renumber.{wrapped, wrapped-other, lowered, l
 use Rattle.semantics.specs.Regions.Cases.{delay-arrive, delay-leave, lingered, linger-empty, linger-same, alone-true, resetAlone, resetJoined, reset-alone, reset-joined}
 use Rattle.semantics.specs.Regions.Lengths.{leave-top, arrive-timers, arrive-top, charge-prices, merged-in, length-merge}
 use Rattle.regions.specs.declared.Region.{Region}
-use Rattle.regions.specs.Arrays.{mapTo}
+use Rattle.arrays.specs.Arrays.{mapTo}
 use Rattle.regions.specs.Held.{pack}
 use Rattle.regions.specs.Laws.Fields.{packed, Holds, timers-is, group-length, top-is, whole-is, group-is, prices-is, prices-many, price-at, group-at, top-few, top-fewer, top-above}
 use Rattle.regions.specs.Laws.Pads.{zeros-pad}

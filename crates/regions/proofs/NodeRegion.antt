@@ -12,10 +12,11 @@ use Rattle.semantics.specs.Region.{top}
 use Rattle.semantics.specs.Answer.{countFrom}
 use Rattle.semantics.specs.Nodes.Node.{Node, nodeOf, nodeNumber, nodeAt}
 use Rattle.semantics.specs.Regions.Groups.{groups-few}
+use Rattle.corners.specs.Held.{packCorner}
 use Rattle.regions.specs.declared.Region.{Region}
 use Rattle.regions.specs.declared.nodes.NodeAt.{NodeAt}
 use Rattle.regions.specs.declared.nodes.NodeRegion.{NodeRegion}
-use Rattle.regions.specs.Held.{mostTimers, mostCorners, highest, pad, pack, packCorner}
+use Rattle.regions.specs.Held.{mostTimers, mostCorners, highest, pad, pack}
 use Rattle.regions.specs.Nodes.{packNode, nodeRegion, packNodeRegion}
 use Rattle.regions.specs.Laws.Fields.{packed}
 use Rattle.regions.specs.Laws.NodeRegion.{node-region-sized, node-region-prices, node-region-well-formed, node-region-number}

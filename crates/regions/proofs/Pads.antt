@@ -12,7 +12,7 @@ use lib.ListN.{length, drop, set, replicate, length-append, length-map, length-s
 use lib.Seq.{take-at, drop-at, set-append-left, set-at}
 use Rattle.semantics.specs.Region.{risen, merge}
 use Rattle.semantics.specs.Regions.Lengths.{length-risen, length-merge}
-use Rattle.regions.specs.Arrays.{mapTo}
+use Rattle.arrays.specs.Arrays.{mapTo}
 use Rattle.regions.specs.Held.{pad}
 
 -- Zeros behind a list stay as they are.

@@ -1,19 +1,14 @@
--- How the structs `Region` and `CornerAt` hold a priced region and a corner, and the bounds within which no number overflows.
+-- How the struct `Region` holds a priced region, and the bounds within which no number overflows.
 -- Assumes nothing.
 use mathlib.Core.Path.{_≡_}
 use Prim.Native.Nat.{ℕ, suc, _+_, _≤_, _<_, _^_}
 use lib.ListN.{length, getD, take}
 use Rattle.semantics.specs.Region.{PricedRegion, WellFormed, top}
-use Rattle.semantics.specs.Corners.Corner.{Corner}
 pub use Rattle.semantics.specs.Graph.CornerGraph.{highest}
 pub use Rattle.reader.specs.Fields.{mostTimers}
 pub use Rattle.reader.specs.Held.{pad}
+pub use Rattle.arrays.specs.Arrays.{mostCorners}
 use Rattle.regions.specs.declared.Region.{Region}
-use Rattle.regions.specs.declared.tables.CornerAt.{CornerAt}
-
--- "one to four corner prices with three timers".
-abbrev pub mostCorners : ℕ
-mostCorners = suc mostTimers
 
 -- The struct that holds a priced region.
 unfoldable pub pack : PricedRegion → Region
@@ -50,7 +45,3 @@ WholeRoom r = (i : ℕ) → getD (r .whole) i 0 < 255
 -- Every place in half minutes is below 255.
 abbrev pub HalfRoom : PricedRegion → Type 0
 HalfRoom r = (i : ℕ) → getD (r .whole) i 0 < 127
-
--- The struct that holds a corner.
-unfoldable pub packCorner : Corner → CornerAt
-packCorner c = record { group = pad mostTimers (c .group); index = c .index; top = highest (c .group) }

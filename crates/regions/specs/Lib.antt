@@ -1,7 +1,5 @@
--- How the crate's structs hold the regions and corners of the definitions.
+-- How the crate's structs hold the regions and nodes of the definitions.
 pub mod Held
-pub mod Arrays
 pub mod Nodes
-pub mod Tables
 -- What a caller may conclude from a contract:
 pub mod Laws

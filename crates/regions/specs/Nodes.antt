@@ -3,36 +3,20 @@
 use mathlib.Core.Path.{_≡_}
 use mathlib.Core.Bool.{cond}
 use mathlib.Core.List.{List}
-use Prim.Native.Nat.{ℕ, suc, _≤_}
+use Prim.Native.Nat.{ℕ, suc}
 use lib.Dec.{leb}
-use lib.ListN.{getD, take}
+use lib.ListN.{take}
 use Rattle.semantics.specs.Region.{PricedRegion}
 use Rattle.semantics.specs.Answer.{countFrom}
-use Rattle.semantics.specs.NodeCount.{factor}
 use Rattle.semantics.specs.Nodes.Node.{Node, nodeOf, nodeNumber}
 pub use Rattle.reader.specs.Fields.{mostModes, mostCeiling}
+pub use Rattle.corners.specs.Cells.{mostCells, mostCellNumber, CeilingsFew}
+use Rattle.corners.specs.Held.{packCorner}
 use Rattle.regions.specs.declared.nodes.Nodes.{Nodes}
 use Rattle.regions.specs.declared.nodes.Nodes.the-variants.{Count, TooMany}
 use Rattle.regions.specs.declared.nodes.NodeAt.{NodeAt}
 use Rattle.regions.specs.declared.nodes.NodeRegion.{NodeRegion}
-use Rattle.regions.specs.Held.{mostTimers, pad, pack, highest, packCorner}
-
--- No ceiling of the array is above the greatest.
-abbrev pub CeilingsFew : List ℕ → Type 0
-CeilingsFew ceilings = (i : ℕ) → getD ceilings i 0 ≤ mostCeiling
-
--- The factor of a ceiling, from 1 to 16.
-pub record IsFactor (ceiling r : ℕ) : Type 0 where
-  pub is : r ≡ factor ceiling
-  pub low : 1 ≤ r
-  pub high : r ≤ 16
-
--- There are at most so many cells; and no three bytes for whole parts give a greater cell number.
-abbrev pub mostCells : ℕ
-mostCells = 4096
-
-abbrev pub mostCellNumber : ℕ
-mostCellNumber = 69615
+use Rattle.regions.specs.Held.{mostTimers, pad, pack, highest}
 
 -- "E may be at most 65,536."
 abbrev pub mostNodes : ℕ

@@ -10,11 +10,10 @@ ghost use Rattle.semantics.specs.NodeCount.{cornerCount};
 ghost use Rattle.semantics.specs.Corners.Corner.{cornerOf, cornerNumber};
 ghost use Rattle.reader.specs.Meaning.{namedTimers, conditionOf};
 ghost use Rattle.regions.specs.Held.{mostTimers, mostCorners, pad, pack, view, Valid, PriceRoom, WholeRoom, HalfRoom};
+use arrays::compare;
+use corners::tables;
 
-mod arrays;
-mod compare;
 pub mod nodes;
-mod tables;
 
 // A region with its corner prices: of each timer its whole part and the number of its group, and the prices c0 to c(top). Of `whole` and
 // `group` the first `timers` entries are used, of `prices` the first `top + 1`; the others are 0. The struct has 24 bytes.
@@ -29,7 +28,7 @@ pub struct Region {
 impl Region {
     pub const MOST_TIMERS: usize = reader::MOST_TIMERS;
 
-    pub const MOST_CORNERS: usize = Region::MOST_TIMERS + 1;
+    pub const MOST_CORNERS: usize = arrays::MOST_CORNERS;
 
     // "The start region has all timers in r0 and the single price 0."
     pub fn start(timers: usize) -> Region
@@ -127,7 +126,10 @@ impl Region {
         let n = self.timers as usize;
         let whole = self.whole;
         let group = self.group;
-        for timer in 0..n {
+        for timer in 0..Region::MOST_TIMERS {
+            if n <= timer {
+                return true;
+            }
             if !compare::at_most(ceilings[timer], whole[timer], group[timer]) {
                 return false;
             }
@@ -148,7 +150,8 @@ impl Region {
         requires { ⌜ Valid self ⌝ }
         ensures { λ r. ⌜ r ≡ pad mostCorners (view self .prices) ⌝ }
     {
-        self.prices
+        let corners = self.prices;
+        corners
     }
 
     // Where each timer stands in half minutes: at an even place on a whole minute, at an odd one between two. A timer that is not there is at 0.

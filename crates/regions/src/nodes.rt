@@ -1,17 +1,20 @@
 // The nodes of a search by their numbers: cells, nodes, and how many there are. The arithmetic is in 32 bits.
 ghost use mathlib.Core.Path.{_≡_};
 ghost use mathlib.Core.Bool.{cond};
-ghost use Prim.Native.Nat.{_+_, _*_, _%_, _<_, _≤_};
+ghost use Prim.Native.Nat.{_<_, _≤_};
 ghost use lib.Dec.{leb};
 ghost use lib.ListN.{take};
 ghost use Rattle.semantics.specs.NodeCount.{cellCount, nodeCount};
-ghost use Rattle.semantics.specs.Nodes.Node.{cellNumber, cellAt, nodeOf, nodeNumber, nodeAt};
+ghost use Rattle.semantics.specs.Nodes.Node.{nodeOf, nodeNumber, nodeAt};
 ghost use Rattle.reader.specs.Held.{automatonOf, IsTable};
 ghost use Rattle.regions.specs.Held.{mostTimers, view, Valid};
-ghost use Rattle.regions.specs.Nodes.{mostModes, mostCeiling, mostCells, mostCellNumber, mostNodes, CeilingsFew, IsFactor, Padded, bounded, packNode, packNodeRegion};
+ghost use Rattle.regions.specs.Nodes.{mostModes, mostCells, mostNodes, CeilingsFew, Padded, bounded, packNode, packNodeRegion};
 use crate::Region;
-use crate::tables;
-use crate::tables::CornerAt;
+use corners::cells::cell_at;
+use corners::cells::cell_number;
+use corners::cells::cells;
+use corners::tables;
+use corners::tables::CornerAt;
 use reader::table;
 use reader::table::TABLE;
 
@@ -40,69 +43,12 @@ struct NodeAt {
     corner: CornerAt,
 }
 
-// How many whole parts a timer may have.
-fn factor(ceiling: u8) -> u32
-    requires { ⌜ ceiling ≤ mostCeiling ⌝ }
-    ensures { λ r. ⌜ IsFactor ceiling r ⌝ }
-{
-    ceiling as u32 + 1
-}
-
-// How many cells there are. Behind the last ceiling there is 0, so that the factors there are 1.
-fn cells(ceilings: [u8; Region::MOST_TIMERS]) -> u32
-    requires { ⌜ CeilingsFew ceilings ⌝ }
-    ensures { λ r. ⌜ (r ≡ cellCount ceilings) × (1 ≤ r) × (r ≤ mostCells) ⌝ }
-{
-    factor(ceilings[2]) * factor(ceilings[1]) * factor(ceilings[0])
-}
-
+// How many cells there are.
 pub fn cell_count(ceilings: [u8; Region::MOST_TIMERS]) -> usize
     requires { ⌜ CeilingsFew ceilings ⌝ }
     ensures { λ r. ⌜ (r ≡ cellCount ceilings) × (1 ≤ r) × (r ≤ mostCells) ⌝ }
 {
     cells(ceilings) as usize
-}
-
-// One digit more of a number in mixed radix. Two digits that are bytes, with factors up to 16, give at most 4335.
-fn with_digit(high: u32, factor: u32, digit: u8) -> u32
-    requires { ⌜ (high ≤ 4335) × (factor ≤ 16) ⌝ }
-    ensures { λ r. ⌜ (r ≡ high * factor + digit) × (r ≤ 16 * high + 255) ⌝ }
-{
-    high * factor + digit as u32
-}
-
-// The number of a cell.
-fn cell_number(ceilings: [u8; Region::MOST_TIMERS], whole: [u8; Region::MOST_TIMERS]) -> u32
-    requires { ⌜ CeilingsFew ceilings ⌝ }
-    ensures { λ r. ⌜ (r ≡ cellNumber ceilings whole) × (r ≤ mostCellNumber) ⌝ }
-{
-    let a = factor(ceilings[0]);
-    let b = factor(ceilings[1]);
-    let c = factor(ceilings[2]);
-    let last = with_digit(0, c, whole[2]);
-    let high = with_digit(last, b, whole[1]);
-    with_digit(high, a, whole[0])
-}
-
-// The lowest digit of a number in mixed radix.
-fn digit(number: u32, factor: u32) -> u8
-    requires { ⌜ (1 ≤ factor) × (factor ≤ 16) ⌝ }
-    ensures { λ r. ⌜ r ≡ number % factor ⌝ }
-{
-    (number % factor) as u8
-}
-
-// The cell with a number.
-fn cell_at(ceilings: [u8; Region::MOST_TIMERS], number: u32) -> [u8; Region::MOST_TIMERS]
-    requires { ⌜ CeilingsFew ceilings ⌝ }
-    ensures { λ r. ⌜ r ≡ cellAt ceilings number ⌝ }
-{
-    let a = factor(ceilings[0]);
-    let b = factor(ceilings[1]);
-    let c = factor(ceilings[2]);
-    let high = number / a;
-    let last = high / b;
-    [digit(number, a), digit(high, b), digit(last, c)]
 }
 
 // The number of the node that is a region's corner in a mode.

@@ -21,15 +21,15 @@ use Rattle.reader.specs.Fields.{mostPrice}
 use Rattle.reader.specs.Held.{automatonOf}
 use Rattle.reader.specs.Theorems.Access.{table-proper}
 use Rattle.search.specs.Outcome.{mostNodes, cleared}
-use Rattle.search.specs.declared.near.Cost.{Cost as CostHeld}
-use Rattle.search.specs.declared.space.Space.{Space}
-use Rattle.search.specs.Space.{graphOf, startOf, IsSpace}
-use Rattle.search.specs.Near.{costEntry, BestRoom, IsBest}
+use Rattle.near.specs.declared.Cost.{Cost as CostHeld}
+use Rattle.space.specs.declared.Space.{Space}
+use Rattle.space.specs.Space.{graphOf, startOf, IsSpace}
+use Rattle.near.specs.Near.{costEntry, BestRoom, IsBest}
 use Rattle.route.specs.declared.Answer.the-variants.{Refused, NoRoute, Route}
 use Rattle.route.specs.Plan.{outcome, routed}
 use Rattle.route.specs.Walk.{RestKept, WalkReady, WalkDone}
 use Rattle.route.specs.Found.{Found, ReadOff}
-use Rattle.search.specs.Laws.Shares.{table-setting}
+use Rattle.space.specs.Laws.Shares.{table-setting}
 use Rattle.search.specs.Laws.Goal.{best-target, goal-closed, goal-light, goal-inside, goal-small}
 
 -- The two outcomes of a route.

@@ -18,7 +18,7 @@ use Rattle.semantics.specs.Graph.Path.{Entry, unreached, infinity, chargeAt, st
 use Rattle.semantics.specs.Answers.Marks.{LeavesMarked}
 use Rattle.semantics.specs.Answers.Trail.{Trail, trail-marked, trail-deep, trail-back}
 use Rattle.reader.specs.Held.{automatonOf}
-use Rattle.search.specs.declared.space.Space.{Space}
+use Rattle.space.specs.declared.Space.{Space}
 use Rattle.steps.specs.declared.Stand.{Stand}
 use Rattle.steps.specs.declared.Next.{Next}
 use Rattle.steps.specs.Steps.{Marked, standPlace, NextStep}

@@ -11,7 +11,7 @@ use Rattle.semantics.specs.Order.{Cost, cost}
 use Rattle.semantics.specs.Graph.Path.{Entry, unreached, reached, infinity, chargeAt, stepsAt}
 use Rattle.semantics.specs.Answers.Trail.{Trail}
 use Rattle.reader.specs.Held.{automatonOf}
-use Rattle.search.specs.declared.space.Space.{Space}
+use Rattle.space.specs.declared.Space.{Space}
 use Rattle.steps.specs.declared.Stand.{Stand}
 use Rattle.steps.specs.Steps.{Marked}
 use Rattle.route.specs.Walk.{WalkReady, RestKept, backPointer, pointer, pointing}

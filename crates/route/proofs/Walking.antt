@@ -30,10 +30,10 @@ use Rattle.semantics.specs.Answers.Trail.{Trail, trail-begins, trail-entry, tra
 use Rattle.reader.specs.Fields.{mostPrice}
 use Rattle.reader.specs.Held.{automatonOf}
 use Rattle.reader.specs.Theorems.Access.{table-proper, amounts-within}
-use Rattle.search.specs.declared.space.Space.{Space}
+use Rattle.space.specs.declared.Space.{Space}
 use Rattle.steps.specs.declared.Stand.{Stand}
 use Rattle.steps.specs.declared.Next.{Next}
-use Rattle.search.specs.Space.{startOf, placeOf}
+use Rattle.space.specs.Space.{startOf, placeOf}
 use Rattle.steps.specs.Steps.{Marked, standPlace, Tells, StandReady, IsNext, NextStep}
 use Rattle.route.specs.Walk.{WalkReady, WalkDone}
 use Rattle.route.proofs.MarkedSets.{marked-one}

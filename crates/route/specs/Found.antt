@@ -11,8 +11,8 @@ use Rattle.semantics.specs.Answers.Walk.{NearCosts}
 use Rattle.reader.specs.Held.{automatonOf, IsTable}
 use Rattle.rules.specs.Rules.{IsRules}
 use Rattle.search.specs.Outcome.{mostNodes, cleared}
-use Rattle.search.specs.Space.{graphOf, startOf}
-use Rattle.search.specs.Near.{BestRoom}
+use Rattle.space.specs.Space.{graphOf, startOf}
+use Rattle.near.specs.Near.{BestRoom}
 use Rattle.route.specs.declared.Answer.{Answer}
 use Rattle.route.specs.Plan.{outcome, routed}
 use Rattle.route.specs.Walk.{RestKept}

@@ -14,10 +14,10 @@ use Rattle.semantics.specs.Graph.Distance.{distance}
 use Rattle.semantics.specs.Answer.{route, answer}
 use Rattle.semantics.specs.Answers.Walk.{NearCosts}
 use Rattle.reader.specs.Held.{automatonOf}
-use Rattle.search.specs.declared.space.Space.{Space}
+use Rattle.space.specs.declared.Space.{Space}
 use Rattle.steps.specs.declared.Stand.{Stand}
 use Rattle.steps.specs.declared.Next.{Next}
-use Rattle.search.specs.Space.{Setting, graphOf, startOf}
+use Rattle.space.specs.Space.{Setting, graphOf, startOf}
 use Rattle.steps.specs.Steps.{Marked}
 
 -- The words are those of a search of the table for its goal, which is reached, and there are route bytes for its steps.

@@ -8,14 +8,12 @@ ghost use Rattle.route.specs.Found.{Found, ReadOff};
 
 mod walk;
 
+use near::INFINITY;
 use reader::Verdict;
 use reader::table;
 use reader::table::TABLE;
 use rules::RULES;
-use search::INFINITY;
 use search::Searched;
-use search::near;
-use search::space;
 
 // "10: the route has more steps than route bytes lent".
 const ROUTE_TOO_LONG: u8 = 10;

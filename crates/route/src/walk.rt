@@ -2,12 +2,11 @@
 ghost use mathlib.Core.Path.{_≡_};
 ghost use Prim.Native.Nat.{_/_, _<_, _≤_};
 ghost use Rattle.route.specs.Walk.{lowest, PruneRoom, Pruned, AdvanceReady, Advanced, BacktrackReady, Backtracked, WalkReady, WalkDone};
+use near::INFINITY;
 use reader::table;
 use reader::table::TABLE;
 use rules::RULES;
-use search::INFINITY;
-use search::space;
-use search::space::Space;
+use space::Space;
 use steps::NO_STEP;
 use steps::Next;
 use steps::Stand;

@@ -4,5 +4,6 @@ pub mod Codes
 pub mod Narrowing
 pub mod Writing
 pub mod Filling
+pub mod Joining
 pub mod Ordering
 pub mod Whole

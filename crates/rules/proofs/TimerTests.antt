@@ -7,11 +7,11 @@ use mathlib.Core.List.{List}
 use Prim.Native.Nat.{ℕ, _+_, _≤_, _<_}
 use native.Mathlib.Decide.{ℕ-discrete}
 use native.Mathlib.Omega.{arith}
-use borrow.Author.Tests.{ltb-true, lt-ltb, leb-true, le-leb, lt-leb}
+use borrow.Author.Tests.{le-leb, lt-leb}
 use lib.Dec.{leb, ltb}
 use lib.ListN.{getD}
-use Rattle.semantics.specs.Regions.Compare.{and-true-iff}
 use Rattle.rules.specs.Rules.{lowAt, highAt, InRow}
+use Rattle.rules.specs.Laws.Windows.{in-window}
 
 -- A place below the window, and one that is not.
 pub below : (low h high : ℕ) → h < low → false ≡ (leb low h && ltb h high)
@@ -19,11 +19,6 @@ below low h high p = rw (lt-leb low h p)
 
 pub not-below : (low h high : ℕ) → low ≤ h → ltb h high ≡ (leb low h && ltb h high)
 not-below low h high p = rw (le-leb low h p)
-
-pub in-window : (low h high : ℕ) → ((leb low h && ltb h high) ≡ true) ↔ ((low ≤ h) × (h < high))
-in-window low h high =
-    let both = and-true-iff (leb low h) (ltb h high) in
-    (λ t. (leb-true low h (both .0 t .0), ltb-true h high (both .0 t .1)), λ w. both .1 (le-leb low h (w .0), lt-ltb h high (w .1)))
 
 -- The timers before i are in the windows of a row.
 abbrev pub InUpTo : List ℕ → ℕ → List ℕ → ℕ → Type 0

@@ -9,9 +9,9 @@ use lib.Seq.{drop-drop}
 use Rattle.semantics.specs.Automaton.{Mode, Move, modeAt, moveAt}
 use Rattle.reader.specs.Meaning.{conditionsFrom}
 use Rattle.reader.specs.Held.{automatonOf, IsTable}
-use Rattle.reader.specs.Theorems.Access.{mode-count, move-count, mode-at, move-at}
-use Rattle.rules.specs.Rules.{none, IsRow, IsRules}
-use Rattle.rules.specs.Making.{Wrote, conditionBytes, FilledRows, OrderedFrom}
+use Rattle.reader.specs.Theorems.Access.{mode-count, move-count, mode-at, move-at, target-below}
+use Rattle.rules.specs.Rules.{none, targetConditions, IsRow, IsMoveRow, IsRules}
+use Rattle.rules.specs.Making.{Wrote, conditionBytes, FilledRows, JoinedRows, OrderedFrom}
 use Rattle.rules.proofs.Filling.{row-kept}
 use Rattle.rules.proofs.Ordering.{modes-few, moves-few}
 
@@ -33,38 +33,52 @@ module _ (t : List ℕ) (table : IsTable t) where
       ∙ ap (λ (u : List ℕ). conditionsFrom 0 (take 6 u)) (sym (drop-drop 4 (136 + 12 * e) t))
       ∙ sym (ap (λ (o : Move). o .conditions) (move-at t e (omega (arith, move-count t table))))
 
-  -- From zeros: the rows of the modes, those of the moves, no first move, and the moves in their order.
-  module _ (zeros filled full empty rules : List ℕ) (zero-there : (j : ℕ) → getD zeros j 0 ≡ 0) (long : length zeros ≡ 560) (modes moves : ℕ)
-      (modes-are : modes ≡ length (automatonOf t .modes)) (moves-are : moves ≡ length (automatonOf t .moves))
+  -- From zeros: the rows of the modes, those of the moves, these joined with their targets', no first move, and the moves in their order.
+  module _ (zeros filled full joined empty rules : List ℕ) (zero-there : (j : ℕ) → getD zeros j 0 ≡ 0) (long : length zeros ≡ 560)
+      (modes moves : ℕ) (modes-are : modes ≡ length (automatonOf t .modes)) (moves-are : moves ≡ length (automatonOf t .moves))
       (invariants : FilledRows (conditionBytes t 10 8) modes 0 zeros filled) (guards : FilledRows (conditionBytes t 140 12) moves 16 filled full)
-      (cleared : Wrote (λ m. none) 480 modes full empty) (ordered : OrderedFrom (automatonOf t) 0 empty rules) where
-    row-byte : (j : ℕ) → j < 480 → getD rules j 0 ≡ getD full j 0
+      (joins : JoinedRows (automatonOf t) (length (automatonOf t .moves)) full joined) (cleared : Wrote (λ m. none) 480 modes joined empty)
+      (ordered : OrderedFrom (automatonOf t) 0 empty rules) where
+    row-byte : (j : ℕ) → j < 480 → getD rules j 0 ≡ getD joined j 0
     row-byte j l = ordered .before j l ∙ cleared .before j l
 
-    mode-row : (m : ℕ) → m < length (automatonOf t .modes) → IsRow rules m (modeAt (automatonOf t) m .conditions)
-    mode-row m l =
+    mode-full : (m : ℕ) → m < length (automatonOf t .modes) → IsRow full m (modeAt (automatonOf t) m .conditions)
+    mode-full m l =
         let number : 0 + m ≡ m = omega arith in
         let there : IsRow filled m (conditionsFrom 0 (take 6 (drop (10 + 8 * m) t))) = rw number at (invariants .there m (omega arith)) in
         rw (mode-conditions m l) at
-        (row-kept (conditionsFrom 0 (take 6 (drop (10 + 8 * m) t))) m filled rules
-        (λ j a b. row-byte j (omega (arith, modes-few t table)) ∙ guards .before j (omega (arith, modes-few t table))) there)
+        (row-kept (conditionsFrom 0 (take 6 (drop (10 + 8 * m) t))) m filled full (λ j a b. guards .before j (omega (arith, modes-few t table))) there)
 
-    move-row : (e : ℕ) → e < length (automatonOf t .moves) → IsRow rules (16 + e) (moveAt (automatonOf t) e .conditions)
+    mode-row : (m : ℕ) → m < length (automatonOf t .modes) → IsRow rules m (modeAt (automatonOf t) m .conditions)
+    mode-row m l =
+        row-kept (modeAt (automatonOf t) m .conditions) m full rules
+        (λ j a b. row-byte j (omega (arith, modes-few t table)) ∙ joins .before j (omega (arith, modes-few t table))) (mode-full m l)
+
+    move-full : (e : ℕ) → e < length (automatonOf t .moves) → IsRow full (16 + e) (moveAt (automatonOf t) e .conditions)
+    move-full e l = rw (move-conditions e l) at (guards .there e (omega arith))
+
+    move-row : (e : ℕ) → e < length (automatonOf t .moves) → IsMoveRow (automatonOf t) e rules
     move-row e l =
-        rw (move-conditions e l) at
-        (row-kept (conditionsFrom 0 (take 6 (drop (140 + 12 * e) t))) (16 + e) full rules (λ j a b. row-byte j (omega (arith, moves-few t table)))
-        (guards .there e (omega arith)))
+        let own = move-full e l in
+        let target : IsRow full (moveAt (automatonOf t) e .target) (targetConditions (automatonOf t) e) = mode-full _ (target-below t table e l) in
+        record {
+          low = λ x h.
+              row-byte (6 * (16 + e) + 2 * x) (omega (arith, moves-few t table)) ∙ joins .there e l .low x h ∙ rw (own .low x h, target .low x h);
+          high = λ x h.
+              row-byte (6 * (16 + e) + 2 * x + 1) (omega (arith, moves-few t table)) ∙ joins .there e l .high x h
+              ∙ rw (own .high x h, target .low x h, target .high x h);
+        }
 
     -- What is behind all rows was 0, and so was what is between those of the modes and those of the moves.
-    behind-rows : (j : ℕ) → 6 * (16 + moves) ≤ j → getD full j 0 ≡ 0
-    behind-rows j l = guards .behind j l ∙ invariants .behind j (omega (arith, modes-few t table)) ∙ zero-there j
+    behind-rows : (j : ℕ) → 6 * (16 + moves) ≤ j → getD joined j 0 ≡ 0
+    behind-rows j l = joins .behind j (omega arith) ∙ guards .behind j l ∙ invariants .behind j (omega (arith, modes-few t table)) ∙ zero-there j
 
-    between-rows : (j : ℕ) → 6 * modes ≤ j → j < 96 → getD full j 0 ≡ 0
-    between-rows j l u = guards .before j u ∙ invariants .behind j (omega arith) ∙ zero-there j
+    between-rows : (j : ℕ) → 6 * modes ≤ j → j < 96 → getD joined j 0 ≡ 0
+    between-rows j l u = joins .before j u ∙ guards .before j u ∙ invariants .behind j (omega arith) ∙ zero-there j
 
     pub is-rules : IsRules t rules
     is-rules = record {
-      size = ordered .size ∙ cleared .size ∙ guards .size ∙ invariants .size ∙ long;
+      size = ordered .size ∙ cleared .size ∙ joins .size ∙ guards .size ∙ invariants .size ∙ long;
       invariants = mode-row;
       guards = move-row;
       first = ordered .first;

@@ -1,14 +1,17 @@
 -- What the private functions that make the rules do.
 -- Assumes nothing.
 use mathlib.Core.Path.{_≡_}
+use mathlib.Core.Bool.{Bool}
 use mathlib.Core.List.{List, [], _∷_}
 use Prim.Native.Nat.{ℕ, _+_, _*_, _≤_, _<_, max, min}
 use lib.ListN.{length, getD, set, take, drop}
 use Rattle.semantics.specs.Condition.{Condition}
 use Rattle.semantics.specs.Automaton.{Automaton, moveAt}
+use Rattle.semantics.specs.Run.{among}
 use Rattle.semantics.specs.Regions.Windows.{lowest, above}
+use Rattle.reader.specs.Format.{stands}
 use Rattle.reader.specs.Meaning.{conditionsFrom}
-use Rattle.rules.specs.Rules.{lowOf, highOf, firstOf, afterOf, FirstFrom, IsRow}
+use Rattle.rules.specs.Rules.{lowOf, highOf, joinedLow, joinedHigh, lowAt, highAt, firstOf, afterOf, FirstFrom, IsRow}
 
 -- The six bytes of a row.
 abbrev pub rowOf : List Condition → List ℕ
@@ -37,6 +40,25 @@ pub record FilledRows (bytes : ℕ → List ℕ) (count row : ℕ) (rs rs′ : L
   pub there : (k : ℕ) → k < count → IsRow rs′ (row + k) (conditionsFrom 0 (bytes k))
   pub before : (j : ℕ) → j < 6 * row → getD rs′ j 0 ≡ getD rs j 0
   pub behind : (j : ℕ) → 6 * (row + count) ≤ j → getD rs′ j 0 ≡ getD rs j 0
+
+-- To the windows of a row those of another one, the target's, are joined, of the timers before `count`.
+pub record Joins (isReset : ℕ → Bool) (row target count : ℕ) (rs rs′ : List ℕ) : Type 0 where
+  pub low : (x : ℕ) → x < count → lowAt rs′ row x ≡ joinedLow (isReset x) (lowAt rs row x) (lowAt rs target x)
+  pub high : (x : ℕ) → x < count → highAt rs′ row x ≡ joinedHigh (isReset x) (highAt rs row x) (lowAt rs target x) (highAt rs target x)
+
+-- The byte names the timers that are reset, and all else is as in rs.
+pub record JoinedRow (resets row target count : ℕ) (rs rs′ : List ℕ) : Type 0 where
+  pub size : length rs′ ≡ length rs
+  pub there : Joins (stands resets) row target count rs rs′
+  pub before : (j : ℕ) → j < 6 * row → getD rs′ j 0 ≡ getD rs j 0
+  pub behind : (j : ℕ) → 6 * row + 2 * count ≤ j → getD rs′ j 0 ≡ getD rs j 0
+
+-- To the rows of so many moves those of their targets are joined, and all else is as in rs.
+pub record JoinedRows (a : Automaton) (count : ℕ) (rs rs′ : List ℕ) : Type 0 where
+  pub size : length rs′ ≡ length rs
+  pub there : (e : ℕ) → e < count → Joins (λ x. among x (moveAt a e .resets)) (16 + e) (moveAt a e .target) 3 rs rs′
+  pub before : (j : ℕ) → j < 96 → getD rs′ j 0 ≡ getD rs j 0
+  pub behind : (j : ℕ) → 6 * (16 + count) ≤ j → getD rs′ j 0 ≡ getD rs j 0
 
 -- The moves from e on stand in their order, and all else is as in rs.
 pub record OrderedFrom (a : Automaton) (e : ℕ) (rs rs′ : List ℕ) : Type 0 where

@@ -2,14 +2,15 @@
 -- of each mode one after another.
 -- Assumes nothing.
 use mathlib.Core.Path.{_≡_}
-use mathlib.Core.Bool.{cond}
+use mathlib.Core.Bool.{Bool, cond, _&&_}
 use mathlib.Core.Logic.{_≢_}
 use mathlib.Core.List.{List, [], _∷_}
 use Prim.Native.Nat.{ℕ, _+_, _*_, _≤_, _<_, max, min}
-use lib.Dec.{eqb}
+use lib.Dec.{eqb, leb, ltb}
 use lib.ListN.{length, getD}
 use Rattle.semantics.specs.Condition.{Condition}
 use Rattle.semantics.specs.Automaton.{Automaton, modeAt, moveAt}
+use Rattle.semantics.specs.Run.{among}
 use Rattle.semantics.specs.Regions.Windows.{free, lowest, above}
 use Rattle.reader.specs.Held.{automatonOf}
 
@@ -22,8 +23,17 @@ abbrev pub highOf : List Condition → ℕ → ℕ
 highOf [] x = free
 highOf (c ∷ cs) x = cond (eqb (c .timer) x) (min (above (c .comparison) (c .value)) (highOf cs x)) (highOf cs x)
 
--- Rows of six bytes, the modes' from row 0 on and the moves' from row 16 on. Of timer x the lowest place at which its conditions hold stands at 2x,
--- and the first above it at which they do not at 2x + 1.
+-- "A move is passed over at the first of its conditions, or the target's, that fails": the two windows of a timer in one, the target's, from low to
+-- high, joined to the move's own. A timer that the move resets stands at 0 in the target: where 0 is in the target's window the move's own stays
+-- as it is, and where it is not no place is left. Any other timer stands in the target where it stood: what both windows have is left.
+abbrev pub joinedLow : Bool → ℕ → ℕ → ℕ
+joinedLow reset own low = cond reset own (max own low)
+
+abbrev pub joinedHigh : Bool → ℕ → ℕ → ℕ → ℕ
+joinedHigh reset own low high = cond reset (cond (leb low 0 && ltb 0 high) own 0) (min own high)
+
+-- Rows of six bytes, the modes' from row 0 on and the moves' from row 16 on. Of timer x the lowest place in its window stands at 2x, and the first
+-- above it that is outside at 2x + 1.
 abbrev pub lowAt : List ℕ → ℕ → ℕ → ℕ
 lowAt rs row x = getD rs (6 * row + 2 * x) 0
 
@@ -57,11 +67,25 @@ pub record IsRow (rs : List ℕ) (row : ℕ) (cs : List Condition) : Type 0 wher
   pub low : (x : ℕ) → x < 3 → lowAt rs row x ≡ lowOf cs x
   pub high : (x : ℕ) → x < 3 → highAt rs row x ≡ highOf cs x
 
+-- The conditions of the mode that a move leads to.
+abbrev pub targetConditions : Automaton → ℕ → List Condition
+targetConditions a e = modeAt a (moveAt a e .target) .conditions
+
+-- The row of move e has the windows of its conditions, those of its target's joined to them.
+pub record IsMoveRow (a : Automaton) (e : ℕ) (rs : List ℕ) : Type 0 where
+  pub low :
+      (x : ℕ) → x < 3
+      → lowAt rs (16 + e) x ≡ joinedLow (among x (moveAt a e .resets)) (lowOf (moveAt a e .conditions) x) (lowOf (targetConditions a e) x)
+  pub high :
+      (x : ℕ) → x < 3
+      → highAt rs (16 + e) x
+      ≡ joinedHigh (among x (moveAt a e .resets)) (highOf (moveAt a e .conditions) x) (lowOf (targetConditions a e) x) (highOf (targetConditions a e) x)
+
 -- The bytes are the rules of the table t. What is behind the last mode, and behind the last move, is 0.
 pub record IsRules (t rs : List ℕ) : Type 0 where
   pub size : length rs ≡ 560
   pub invariants : (m : ℕ) → m < length (automatonOf t .modes) → IsRow rs m (modeAt (automatonOf t) m .conditions)
-  pub guards : (e : ℕ) → e < length (automatonOf t .moves) → IsRow rs (16 + e) (moveAt (automatonOf t) e .conditions)
+  pub guards : (e : ℕ) → e < length (automatonOf t .moves) → IsMoveRow (automatonOf t) e rs
   pub first : (m : ℕ) → m < length (automatonOf t .modes) → FirstFrom (automatonOf t) m 0 (firstOf rs m)
   pub after : (e : ℕ) → e < length (automatonOf t .moves) → FirstFrom (automatonOf t) (moveAt (automatonOf t) e .source) (e + 1) (afterOf rs e)
   pub spare-modes : (m i : ℕ) → length (automatonOf t .modes) ≤ m → m < 16 → i < 6 → (getD rs (6 * m + i) 0 ≡ 0) × (firstOf rs m ≡ 0)

@@ -2,10 +2,16 @@
 ghost use mathlib.Core.Path.{_≡_};
 ghost use Prim.Native.Nat.{ℕ, _+_, _*_, _<_, _≤_};
 ghost use lib.ListN.{length, getD, take, drop};
-ghost use Rattle.rules.specs.Making.{conditionBytes, FilledRows, Wrote};
+ghost use Rattle.reader.specs.Held.{automatonOf, IsTable};
+ghost use Rattle.rules.specs.Making.{conditionBytes, FilledRows, JoinedRow, JoinedRows, Wrote};
+use crate::GUARDS;
 use crate::ROW;
 use crate::RULES;
+use crate::windows::joined_high;
+use crate::windows::joined_low;
 use crate::windows::windows;
+use reader::MOST_TIMERS;
+use reader::table;
 use reader::table::TABLE;
 
 // For each of so many records, of so many bytes each, whose conditions stand from `at` on, the windows: in the rows from `row` on.
@@ -18,13 +24,49 @@ pub fn fill(
     row: usize,
 )
     requires { ⌜
-        (length (now table) ≡ 904) × (length (now rules) ≡ 560) × (row + count ≤ 80)
+        (length (now table) ≡ 904) × (length (now rules) ≡ 560) × (row + count ≤ 80) × (stride ≤ 12)
         × ((k : ℕ) → k < count → at + stride * k + 6 ≤ 904)
         ⌝ }
     ensures { λ _. ⌜ FilledRows (conditionBytes (now (table .entry)) at stride) count row (now (rules .entry)) (now (rules .exit)) ⌝ }
 {
     for i in 0..count {
-        put(rules, row + i, windows(conditions(table, at + stride * i)));
+        // The unit's core multiplies in 32 bits.
+        let record = at + (stride as u32 * i as u32) as usize;
+        put(rules, row + i, windows(conditions(table, record)));
+    }
+}
+
+// To the row of each move that of its target is joined, so that one test of the move's row tells whether both let the move pass.
+pub fn join(table: &[u8; TABLE], rules: &mut [u8; RULES])
+    requires { ⌜ IsTable (now table) × (length (now rules) ≡ 560) ⌝ }
+    ensures { λ _. ⌜
+        JoinedRows (automatonOf (now (table .entry))) (length (automatonOf (now (table .entry)) .moves)) (now (rules .entry)) (now (rules .exit))
+        ⌝ }
+{
+    let moves = table::moves(table);
+    for e in 0..moves {
+        join_row(
+            rules,
+            GUARDS + e,
+            table::target(table, e),
+            table::resets(table, e),
+        );
+    }
+}
+
+// Joins the target's row to one, timer by timer. The byte names the timers that are reset.
+fn join_row(rules: &mut [u8; RULES], row: usize, target: usize, resets: u8)
+    requires { ⌜ (length (now rules) ≡ 560) × (target < row) × (row < 80) ⌝ }
+    ensures { λ _. ⌜ JoinedRow resets row target 3 (now (rules .entry)) (now (rules .exit)) ⌝ }
+{
+    for timer in 0..MOST_TIMERS {
+        let reset = (resets >> timer) % 2 == 1;
+        let at = ROW * row + 2 * timer;
+        let from = ROW * target + 2 * timer;
+        let low = joined_low(reset, rules[at], rules[from]);
+        let high = joined_high(reset, rules[at + 1], rules[from], rules[from + 1]);
+        rules[at] = low;
+        rules[at + 1] = high;
     }
 }
 

@@ -1,8 +1,9 @@
-// The windows of condition bytes, in half minutes.
+// The windows of condition bytes, in half minutes, and the ends of one that is joined to another.
 ghost use mathlib.Core.Path.{_≡_};
 ghost use Prim.Native.Nat.{_/_, _%_, _<_, max, min};
 ghost use Rattle.semantics.specs.Regions.Windows.{lowest, above};
 ghost use Rattle.reader.specs.Meaning.{comparisonOf, conditionOf, conditionsFrom};
+ghost use Rattle.rules.specs.Rules.{joinedLow, joinedHigh};
 ghost use Rattle.rules.specs.Making.{rowOf, narrow};
 use crate::ROW;
 
@@ -58,6 +59,32 @@ fn above(condition: u8) -> u8
         2 | 3 => value + 1,
         _ => FREE,
     }
+}
+
+// The low end of a window when another one, the target's, is joined to it. Where the timer is reset it stays as it is.
+pub fn joined_low(reset: bool, own: u8, low: u8) -> u8
+    ensures { λ r. ⌜ r ≡ joinedLow reset own low ⌝ }
+{
+    if reset {
+        return own;
+    }
+    larger(own, low)
+}
+
+// And the high end. A timer that is reset stands at 0 in the target: where 0 is outside, no place is left.
+pub fn joined_high(reset: bool, own: u8, low: u8, high: u8) -> u8
+    ensures { λ r. ⌜ r ≡ joinedHigh reset own low high ⌝ }
+{
+    if !reset {
+        return smaller(own, high);
+    }
+    if 0 < low {
+        return 0;
+    }
+    if high == 0 {
+        return 0;
+    }
+    own
 }
 
 fn larger(a: u8, b: u8) -> u8

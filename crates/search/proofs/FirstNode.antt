@@ -1,18 +1,18 @@
--- The first node of the queue is the next to be settled: then it is in hand, or it ends the search; so does a queue that is empty.
+-- The first node of the queue is the next to be settled: its edges are in hand, or it ends the search; so does a queue that is empty.
 -- Assumes nothing.
-use mathlib.Core.Path.{_≡_, sym, ap, subst}
+use mathlib.Core.Path.{_≡_, ap}
 use mathlib.Core.List.{List}
-use Prim.Native.Nat.{ℕ, suc, _≤_, _<_}
+use Prim.Native.Nat.{ℕ, _≤_, _<_}
 use native.Mathlib.Decide.{decLt}
 use native.Mathlib.Omega.{arith}
 use Rattle.semantics.specs.Order.{Cost}
-use Rattle.semantics.specs.Graph.Path.{Graph, Target, unreached, reached, table}
+use Rattle.semantics.specs.Graph.Path.{Graph, Target, unreached, reached}
 use Rattle.semantics.specs.Paths.Words.{table-reached, reached-words}
 use Rattle.semantics.specs.Paths.Cost.{cost-same}
 use Rattle.semantics.specs.Paths.Explored.{Explored}
 use Rattle.semantics.specs.Paths.Near.{BestTarget, TargetWithin}
-use Rattle.semantics.specs.Paths.Settling.{keyOf, Settling, Only, IsFirst, settle-first, target-explored, target-within, target-best, all-explored, all-best}
-use Rattle.queue.specs.Queue.{lows, slotAt, key, costIn, Pending, Queue, SettleDone}
+use Rattle.semantics.specs.Paths.Settling.{keyOf, IsFirst, settle-first, target-explored, target-within, target-best, all-explored, all-best}
+use Rattle.queue.specs.Queue.{lows, slotAt, costIn, Pending}
 use Rattle.queue.specs.Tournament.{none}
 use Rattle.queue.specs.Laws.First.{first-pending, first-least, first-none}
 use Rattle.search.specs.Exploring.{costsIn, Between, InHand}
@@ -66,13 +66,13 @@ module _ {g : Graph} {s nodes upto : ℕ} {ws : List ℕ} (b : Between g s nodes
       pub goal-best : BestTarget g (costsIn nodes ws) (reached (costIn nodes ws u))
       goal-best = target-best nodes-few (b .settling) u (costIn nodes ws u) within is-first goal (table-reached (lows nodes ws) u (pending .0))
 
-    -- Any other node is settled, and then it is in hand.
-    pub settled-hand : (Target g u → ⊥) → (ws′ : List ℕ) → SettleDone nodes u ws ws′ → InHand g s nodes u ws′
-    settled-hand away ws′ z = record {
+    -- Any other node is in hand.
+    pub first-hand : (Target g u → ⊥) → InHand (record { graph = g; start = s }) nodes u ws
+    first-hand away = record {
       sized = b .sized;
       inside = inside;
-      known = rw (z .costs) (pending .0);
-      queue = subst (λ (l : List ℕ). Queue nodes (suc (key l u)) ws′) (sym (z .costs)) (z .queue);
-      settling = subst (λ (l : List ℕ). Settling g s (suc (key l u)) (Only u) (table l)) (sym (z .costs))
-          (settle-first nodes-few (b .settling) u (costIn nodes ws u) within is-first away);
+      upto = upto;
+      queue = b .queue;
+      first = first;
+      settling = settle-first nodes-few (b .settling) u (costIn nodes ws u) within is-first away;
     }

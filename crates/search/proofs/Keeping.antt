@@ -19,9 +19,10 @@ use Rattle.semantics.specs.Paths.Words.{table-unreached, table-reached, stored,
 use Rattle.semantics.specs.Paths.Found.{wordsAt}
 use Rattle.queue.specs.Queue.{lows}
 use Rattle.queue.specs.Laws.Lows.{lows-charge, lows-steps}
-use Rattle.search.specs.declared.near.Cost.{Cost as CostHeld}
+use Rattle.near.specs.declared.Cost.{Cost as CostHeld}
+use Rattle.near.specs.Near.{costEntry}
 use Rattle.search.specs.Exploring.{costsIn}
-use Rattle.search.specs.Near.{costEntry, isNear, KeptNear}
+use Rattle.search.specs.Keep.{isNear, KeptNear}
 
 -- The test, part by part.
 module _ (charge steps : ℕ) (best : CostHeld) where

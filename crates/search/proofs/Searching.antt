@@ -18,14 +18,15 @@ use Rattle.reader.specs.Fields.{mostPrice}
 use Rattle.reader.specs.Held.{automatonOf, IsTable}
 use Rattle.rules.specs.Rules.{IsRules}
 use Rattle.regions.specs.Nodes.{mostNodes}
-use Rattle.search.specs.declared.near.Cost.{Cost as CostHeld}
-use Rattle.search.specs.declared.space.Space.{Space}
-use Rattle.search.specs.Space.{graphOf, startOf, IsSpace}
+use Rattle.space.specs.declared.Space.{Space}
+use Rattle.space.specs.Space.{graphOf, startOf, IsSpace}
+use Rattle.space.specs.Laws.Shares.{nodes-fewer, table-setting, nodes-three, start-below}
+use Rattle.near.specs.declared.Cost.{Cost as CostHeld}
+use Rattle.near.specs.Near.{costEntry}
 use Rattle.search.specs.Exploring.{costsIn, Between}
-use Rattle.search.specs.Near.{costEntry, KeepReady, KeptNear}
+use Rattle.search.specs.Keep.{KeepReady, KeptNear}
 use Rattle.search.specs.Finding.{SeedReady, Seeded, FindReady, FoundGoal}
 use Rattle.search.specs.Laws.Answers.{Fits}
-use Rattle.search.specs.Laws.Shares.{nodes-fewer, table-setting, nodes-three, start-below}
 use Rattle.search.specs.Laws.Goal.{goal-closed, goal-light, goal-inside, goal-small}
 use Rattle.search.proofs.Seeding.{seeded-rest, seeded-kept, seeded-between}
 

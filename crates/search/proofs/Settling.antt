@@ -1,6 +1,6 @@
 -- The loop that settles nodes: what holds at each turn, that one turn leads to the next, and what holds at the end.
 -- Assumes nothing.
-use mathlib.Core.Path.{_≡_, refl, sym, ap, ap₂, subst, _∙_}
+use mathlib.Core.Path.{_≡_, refl, sym, ap, ap₂, _∙_}
 use mathlib.Core.Bool.{cond}
 use mathlib.Core.Logic.{_≢_, _⊎_, inl, inr}
 use mathlib.Core.List.{List}
@@ -14,6 +14,7 @@ use Rattle.semantics.specs.Order.{Cost, cost}
 use Rattle.semantics.specs.Graph.Path.{Edge, Target, Entry, unreached, reached, infinity, chargeAt, stepsAt}
 use Rattle.semantics.specs.Paths.Explored.{Explored}
 use Rattle.semantics.specs.Paths.Near.{BestTarget, TargetWithin}
+use Rattle.semantics.specs.Paths.Settling.{keyOf}
 use Rattle.semantics.specs.Paths.Sum.{sum-same}
 use Rattle.semantics.specs.Answers.Modes.{graph-goal}
 use Rattle.reader.specs.Held.{automatonOf}
@@ -23,19 +24,24 @@ use Rattle.queue.specs.Queue.{lows, slotAt, key, costIn, Queue, Seated, SettleR
 use Rattle.queue.specs.Laws.Lows.{lows-charge, lows-steps, costs-length, costs-rest}
 use Rattle.queue.specs.Laws.First.{first-pending, first-least}
 use Rattle.queue.specs.Laws.Once.{unsettled, unsettledCount, settled-once}
-use Rattle.search.specs.declared.near.Cost.{Cost as CostHeld}
-use Rattle.search.specs.declared.space.Space.{Space}
-use Rattle.search.specs.Space.{graphOf, startOf, Setting}
-use Rattle.search.specs.Exploring.{costsIn, Between, InHand, Relaxes, relaxes-then, relaxes-done}
-use Rattle.search.specs.Edges.{IsMove, IsWait, Holding, EdgesReady, EdgesDone}
-use Rattle.search.specs.Near.{costEntry}
+use Rattle.space.specs.declared.Space.{Space}
+use Rattle.space.specs.Space.{graphOf, startOf, Setting}
+use Rattle.space.specs.Laws.NodeRegion.{CornerAt}
+use Rattle.near.specs.declared.Cost.{Cost as CostHeld}
+use Rattle.near.specs.Near.{costEntry}
+use Rattle.search.specs.declared.edges.Source.{Source}
+use Rattle.search.specs.Exploring.{costsIn, Between, Relaxes, hand-settles, relaxes-done}
+use Rattle.search.specs.Edges.{IsMove, IsWait, IsAny, rootedOf, Holding, EdgesReady, EdgesDone}
 use Rattle.search.specs.Finding.{FindReady, FoundGoal}
-use Rattle.search.specs.Laws.NodeRegion.{CornerAt}
-use Rattle.search.proofs.FirstNode.{none-explored, none-best, goal-explored, goal-within, goal-best, settled-hand}
+use Rattle.search.proofs.FirstNode.{none-explored, none-best, goal-explored, goal-within, goal-best, first-hand}
 
 -- How many nodes are still to be settled, if `node` is the next one.
 unfoldable pub turnsLeft : ℕ → ℕ → List ℕ → ℕ
 turnsLeft nodes node ws = cond (ltb node nodes) (unsettledCount nodes (key (lows nodes ws) node) ws) 0
+
+turns-here : (nodes u : ℕ) (ws : List ℕ) → u < nodes → turnsLeft nodes u ws ≡ unsettledCount nodes (key (lows nodes ws) u) ws
+unfolding turnsLeft
+turns-here nodes u ws there = rw (lt-ltb u nodes there) refl
 
 module _ (nodes upto : ℕ) (ws : List ℕ) (q : Queue nodes upto ws) (u : ℕ) (first : slotAt ws 1 ≡ u) where
   abbrev ts : List ℕ
@@ -62,10 +68,8 @@ module _ (nodes upto : ℕ) (ws : List ℕ) (q : Queue nodes upto ws) (u : ℕ) 
           rw (le-leb (key ts u) (key ts v) (first-least nodes upto ws q u there first v h (n, k)), le-leb upto (key ts v) k) refl
 
   turns-are : u < nodes → turnsLeft nodes u ws ≡ unsettledCount nodes upto ws
-  unfolding turnsLeft
   turns-are there =
-      rw (lt-ltb u nodes there)
-      (sum-same (λ v. unsettled (key ts u) ts v) (λ v. unsettled upto ts v) nodes (same-open there))
+      turns-here nodes u ws there ∙ sum-same (λ v. unsettled (key ts u) ts v) (λ v. unsettled upto ts v) nodes (same-open there)
 
   none-left : nodes ≤ u → turnsLeft nodes u ws ≡ 0
   unfolding turnsLeft
@@ -118,6 +122,10 @@ module _ {t : List ℕ} {s : Space} {goal : ℕ} {ws₀ ws : List ℕ} {node : �
       at (inl e) = e
       at (inr h) = absurd (omega (arith, turn .first))
 
+-- The struct that is made of its region and its cost.
+abbrev pub sourceOf : NodeRegion → ℕ → ℕ → Source
+sourceOf z charge steps = record { at = z; charge = charge; steps = steps + 1 }
+
 -- The node is one, and its region is known.
 pub record AtNode (t rs : List ℕ) (s : Space) (goal : ℕ) (ws₀ ws : List ℕ) (node : ℕ) (z : NodeRegion) : Type 0 where
   pub setting : Setting t rs s
@@ -139,78 +147,83 @@ module _ {t rs : List ℕ} {s : Space} {goal : ℕ} {ws₀ ws : List ℕ} {node 
   pub node-room : 2 * node + 1 < length ws
   node-room = omega (arith, k .there, between .queue .words .room)
 
-  -- It is of the goal.
-  pub turn-goal :
-      z .mode ≡ goal → (r : CostHeld) → r .charge ≡ chargeAt ws node → r .steps ≡ stepsAt ws node % 65536 → FoundGoal t s goal ws₀ ws r
-  turn-goal is r charge steps =
-      let target : Target (graphOf t goal) node = graph-goal (automatonOf t) goal node .1 (sym (k .corner .mode-is) ∙ is) in
-      let own : r .charge ≡ chargeAt (lows (s .nodes) ws) node = charge ∙ sym (lows-charge (s .nodes) ws node) in
-      let counted : r .steps ≡ stepsAt (lows (s .nodes) ws) node = steps ∙ sym (lows-steps (s .nodes) ws node (k .there)) in
-      let finite : r .charge ≢ infinity = λ q. known (sym own ∙ q) in
-      let entry : costEntry r ≡ reached (costIn (s .nodes) ws node) =
-      rw (ne-eqb (r .charge) infinity finite) (ap₂ (λ (x y : ℕ). reached (cost x y)) own counted) in
-      found (k .turn) r (reached (costIn (s .nodes) ws node)) entry (λ q. absurd (finite q))
-      (goal-explored between node (k .there) (k .turn .first) target) (goal-within between node (k .there) (k .turn .first) target)
-      (goal-best between node (k .there) (k .turn .first) target)
+  -- Its cost is read.
+  module _ {charge steps : ℕ} (charge-is : charge ≡ chargeAt ws node) (steps-are : steps ≡ stepsAt ws node % 65536) where
+    own-charge : charge ≡ chargeAt (lows (s .nodes) ws) node
+    own-charge = charge-is ∙ sym (lows-charge (s .nodes) ws node)
 
-  pub settle-ready : SettleReady (s .nodes) node ws
-  settle-ready = record { upto = k .turn .upto; queue = between .queue; first = k .turn .first; there = k .there }
+    own-steps : steps ≡ stepsAt (lows (s .nodes) ws) node
+    own-steps = steps-are ∙ sym (lows-steps (s .nodes) ws node (k .there))
 
-  -- It is not, and was settled.
-  module _ (away : z .mode ≢ goal) {ws₁ : List ℕ} (done : SettleDone (s .nodes) node ws ws₁) where
-    not-target : Target (graphOf t goal) node → ⊥
-    not-target x = away (k .corner .mode-is ∙ graph-goal (automatonOf t) goal node .0 x)
+    -- It is of the goal.
+    pub turn-goal : z .mode ≡ goal → FoundGoal t s goal ws₀ ws (record { charge = charge; steps = steps })
+    turn-goal is =
+        let r : CostHeld = record { charge = charge; steps = steps } in
+        let target : Target (graphOf t goal) node = graph-goal (automatonOf t) goal node .1 (sym (k .corner .mode-is) ∙ is) in
+        let finite : charge ≢ infinity = λ q. known (sym own-charge ∙ q) in
+        let entry : costEntry r ≡ reached (costIn (s .nodes) ws node) =
+        rw (ne-eqb charge infinity finite) (ap₂ (λ (x y : ℕ). reached (cost x y)) own-charge own-steps) in
+        found (k .turn) r (reached (costIn (s .nodes) ws node)) entry (λ q. absurd (finite q))
+        (goal-explored between node (k .there) (k .turn .first) target) (goal-within between node (k .there) (k .turn .first) target)
+        (goal-best between node (k .there) (k .turn .first) target)
 
-    holding : Holding t s z ws₁ goal
-    holding =
-        subst (λ (u : ℕ). InHand (graphOf t goal) (startOf t) (s .nodes) u ws₁) (sym (k .corner .own))
-        (settled-hand between node (k .there) (k .turn .first) not-target ws₁ done)
+    -- It is not: its edges are in hand.
+    module _ (away : z .mode ≢ goal) where
+      not-target : Target (graphOf t goal) node → ⊥
+      not-target x = away (k .corner .mode-is ∙ graph-goal (automatonOf t) goal node .0 x)
 
-    pub waits-ready : EdgesReady t rs s z ws₁
-    waits-ready = record { setting = k .setting; corner = k .corner .corner; goal = goal; hand = holding }
+      holding : Holding t s (sourceOf z charge steps) ws goal
+      holding = record {
+        hand = rw (k .corner .own) (first-hand between node (k .there) (k .turn .first) not-target);
+        charge-is = rw (k .corner .own) own-charge;
+        steps-are = rw (k .corner .own) (omega (arith, own-steps));
+      }
 
-    module _ {ws₂ : List ℕ} (waits : EdgesDone IsWait t s z ws₁ ws₂) where
-      waited : Relaxes (graphOf t goal) (startOf t) (s .nodes) (z .first + z .index) IsWait ws₁ ws₂
-      waited = waits goal holding
+      pub edges-ready : EdgesReady t rs s (sourceOf z charge steps) ws
+      edges-ready = record { setting = k .setting; corner = k .corner .corner; goal = goal; holding = holding }
 
-      pub moves-ready : EdgesReady t rs s z ws₂
-      moves-ready = record { setting = k .setting; corner = k .corner .corner; goal = goal; hand = waited .hand }
+      -- They were relaxed.
+      module _ {ws₁ : List ℕ} (edges : EdgesDone IsAny t s (sourceOf z charge steps) ws ws₁) where
+        relaxed : Relaxes (rootedOf t goal) (s .nodes) node IsAny ws ws₁
+        relaxed = rw (k .corner .own) at (edges goal holding)
 
-      -- All its edges were relaxed.
-      module _ {ws₃ : List ℕ} (moves : EdgesDone IsMove t s z ws₂ ws₃) where
-        any : (e : Edge) → IsWait e ⊎ IsMove e
-        any e = at (decLt (e .label) 64)
-          where
-            at : Dec (e .label < 64) → IsWait e ⊎ IsMove e
-            at (yes h) = inr h
-            at (no h) = inl (omega arith)
+        pub settle-ready : SettleReady (s .nodes) node ws₁
+        settle-ready = hand-settles (relaxed .hand)
 
-        all : Relaxes (graphOf t goal) (startOf t) (s .nodes) (z .first + z .index) (λ e. IsWait e ⊎ IsMove e) ws₁ ws₃
-        all = relaxes-then (λ e. IsWait e ⊎ IsMove e) waited (moves goal (waited .hand)) (λ e l f. f)
+        -- And it was settled.
+        module _ {ws₂ : List ℕ} (done : SettleDone (s .nodes) node ws₁ ws₂) where
+          any : (e : Edge) → IsAny e
+          any e = at (decLt (e .label) 64)
+            where
+              at : Dec (e .label < 64) → IsWait e ⊎ IsMove e
+              at (yes h) = inr h
+              at (no h) = inl (omega arith)
 
-        after : Between (graphOf t goal) (startOf t) (s .nodes) (suc (key (lows (s .nodes) ws₁) (z .first + z .index))) ws₃
-        after = relaxes-done (λ e l. any e) all
+          after : Between (graphOf t goal) (startOf t) (s .nodes) (suc (key (lows (s .nodes) ws₁) node)) ws₂
+          after = relaxes-done (λ e l. any e) relaxed done
 
-        pub next-room : 3 < length ws₃
-        next-room = omega (arith, after .queue .words .two, after .queue .words .room)
+          pub next-room : 3 < length ws₂
+          next-room = omega (arith, after .queue .words .two, after .queue .words .room)
 
-        module _ (next : ℕ) (is : next ≡ slotAt ws₃ 1) where
-          pub turn-next : Turn t s goal ws₀ ws₃ next
-          turn-next = record {
-            upto = suc (key (lows (s .nodes) ws₁) (z .first + z .index));
-            between = after;
-            first = sym is;
-            rest = all .rest ∙ costs-rest (s .nodes) ws ws₁ (done .costs) ∙ k .turn .rest;
-            kept = all .kept ∙ costs-length (s .nodes) ws ws₁ (done .costs) ∙ k .turn .kept;
-          }
+          module _ (next : ℕ) (is : next ≡ slotAt ws₂ 1) where
+            pub turn-next : Turn t s goal ws₀ ws₂ next
+            turn-next = record {
+              upto = suc (key (lows (s .nodes) ws₁) node);
+              between = after;
+              first = sym is;
+              rest = costs-rest (s .nodes) ws₁ ws₂ (done .costs) ∙ relaxed .rest ∙ k .turn .rest;
+              kept = costs-length (s .nodes) ws₁ ws₂ (done .costs) ∙ relaxed .kept ∙ k .turn .kept;
+            }
 
-          -- One node less is to be settled.
-          pub turn-less : turnsLeft (s .nodes) next ws₃ < turnsLeft (s .nodes) node ws
-          turn-less =
-              let was = turns-are n (k .turn .upto) ws (between .queue) node (k .turn .first) (k .there) in
-              let once = settled-once n node ws ws₁ (k .turn .upto) (between .queue) (k .turn .first) (k .there) done in
-              let keys : suc (key (lows n ws₁) (z .first + z .index)) ≡ suc (key (lows n ws) node) =
-              ap₂ (λ (l : List ℕ) (v : ℕ). suc (key l v)) (done .costs) (k .corner .own) in
-              let same : unsettledCount n (suc (key (lows n ws₁) (z .first + z .index))) ws₁ ≡ unsettledCount n (suc (key (lows n ws) node)) ws₁ =
-              ap (λ (m : ℕ). unsettledCount n m ws₁) keys in
-              omega (arith, was, once, same, all .unsettled, turns-most n _ ws₃ (after .queue) next (sym is))
+            -- One node less is to be settled.
+            pub turn-less : turnsLeft (s .nodes) next ws₂ < turnsLeft (s .nodes) node ws
+            turn-less =
+                let h = relaxed .hand in
+                let was = turns-here n node ws (k .there) in
+                let now = turns-are n (h .upto) ws₁ (h .queue) node (h .first) (k .there) in
+                let here = turns-here n node ws₁ (k .there) in
+                let keys : key (lows n ws₁) node ≡ key (lows n ws) node = ap (λ (c : Cost). keyOf c node) (relaxed .same) in
+                let same : unsettledCount n (key (lows n ws₁) node) ws₁ ≡ unsettledCount n (key (lows n ws) node) ws₁ =
+                ap (λ (m : ℕ). unsettledCount n m ws₁) keys in
+                let once = settled-once n node ws₁ ws₂ (h .upto) (h .queue) (h .first) (k .there) done in
+                omega (arith, was, now, here, same, relaxed .unsettled, once, turns-most n _ ws₂ (after .queue) next (sym is))

@@ -4,7 +4,7 @@ use mathlib.Core.Path.{_≡_, refl, sym, ap, _∙_}
 use mathlib.Core.Bool.{Bool, true, false, true≢false}
 use mathlib.Core.Logic.{_↔_, _⊎_, inl, inr, ⊎-elim}
 use mathlib.Core.List.{List}
-use Prim.Native.Nat.{ℕ, _+_}
+use Prim.Native.Nat.{ℕ}
 use native.Mathlib.Omega.{arith}
 use borrow.Author.Tests.{lt-ltb, le-ltb}
 use lib.Dec.{ltb}
@@ -20,14 +20,16 @@ use Rattle.rules.specs.Rules.{InRow}
 use Rattle.regions.specs.declared.Region.{Region}
 use Rattle.regions.specs.declared.nodes.NodeRegion.{NodeRegion}
 use Rattle.regions.specs.Held.{pack, view}
-use Rattle.search.specs.declared.space.Space.{Space}
-use Rattle.search.specs.Space.{graphOf, placeAt}
+use Rattle.space.specs.declared.Space.{Space}
+use Rattle.space.specs.Space.{graphOf, placeAt}
+use Rattle.space.proofs.Settings.{halvesOf, corner-leaves}
+use Rattle.space.proofs.Delayed.{delayed-seen, delayed-fewer, delayed-within, delayed-meets, delayed-number}
+use Rattle.space.proofs.WaitEdges.{keep-top, delay-allowed}
+use Rattle.search.specs.declared.edges.Source.{Source}
 use Rattle.search.specs.Exploring.{relaxes-then}
-use Rattle.search.specs.Edges.{IsWait, EdgesReady, EdgesDone}
+use Rattle.search.specs.Edges.{IsWait, nodeIn, Short, EdgesReady, EdgesDone}
 use Rattle.search.specs.Waits.{IsDelay, IsLinger, WaitReady, WaitDone, DelayReady}
-use Rattle.search.proofs.Settings.{halvesOf, corner-leaves}
-use Rattle.search.proofs.Delayed.{delayed-seen, delayed-fewer, delayed-within, delayed-meets, delayed-number}
-use Rattle.search.proofs.WaitEdges.{keep-top, delay-allowed}
+use Rattle.search.proofs.Offers.{hold-again}
 use Rattle.search.proofs.WaitRelaxing.{relaxes-fewer, wait-again}
 
 -- What the code finds at first: the region after a delay, its highest group and that of the region before, and the rate.
@@ -42,63 +44,63 @@ pub record Stands (s : Space) (delayed : Region) (hs : List ℕ) : Type 0 where
   pub inside : within (take (delayed .timers) (s .ceilings)) (view delayed) ≡ true
   pub halves-are : hs ≡ halvesOf (view delayed)
 
-module _ {t rs : List ℕ} {s : Space} {z : NodeRegion} {ws : List ℕ} (r : EdgesReady t rs s z ws) {delayed : Region} {new old rate : ℕ}
-    (k : Looked t z delayed new old rate) where
+module _ {t rs : List ℕ} {s : Space} {x : Source} {ws : List ℕ} (r : EdgesReady t rs s x ws) (short : Short s x) {delayed : Region} {new old rate : ℕ}
+    (k : Looked t (x .at) delayed new old rate) where
   -- The test of the ceilings.
   within-same :
-      within (take (delayed .timers) (s .ceilings)) (view delayed) ≡ within (automatonOf t .ceilings) (delayedTo (placeAt z) .region)
+      within (take (delayed .timers) (s .ceilings)) (view delayed) ≡ within (automatonOf t .ceilings) (delayedTo (placeAt (x .at)) .region)
   within-same = delayed-within (r .setting) (r .corner) delayed (k .is)
 
   -- A corner is taken away just if r0 is empty.
-  empty-is : ltb new old ≡ noZero (view (z .region))
-  empty-is = go (noZero (view (z .region))) refl
+  empty-is : ltb new old ≡ noZero (view (x .at .region))
+  empty-is = go (noZero (view (x .at .region))) refl
     where
-      go : (b : Bool) → noZero (view (z .region)) ≡ b → ltb new old ≡ b
+      go : (b : Bool) → noZero (view (x .at .region)) ≡ b → ltb new old ≡ b
       go true e = lt-ltb new old (omega (arith, k .new-is, k .old-is, delayed-fewer (r .setting) (r .corner) delayed (k .is) .0 e))
       go false e =
-          let rose = keep-top (view (z .region)) (r .corner .place .well-formed) (r .corner .indexed) e in
+          let rose = keep-top (view (x .at .region)) (r .corner .place .well-formed) (r .corner .indexed) e in
           le-ltb new old (omega (arith, k .new-is, k .old-is, ap top (delayed-seen (r .setting) (r .corner) delayed (k .is)), rose))
 
-  pub waits-ready : WaitReady (s .nodes) z (ltb new old) rate ws
-  waits-ready = record { table = t; rules = rs; space = s; edges = r; nodes-are = refl; empty-is = empty-is; rate-is = k .rate-is }
+  pub waits-ready : WaitReady (s .nodes) x (ltb new old) rate ws
+  waits-ready = record { table = t; rules = rs; space = s; edges = r; short = short; nodes-are = refl; empty-is = empty-is; rate-is = k .rate-is }
 
   -- After linger there is delay.
-  module _ {ws′ : List ℕ} (lingered : (w : WaitReady (s .nodes) z (ltb new old) rate ws) → WaitDone IsLinger w ws′) where
-    one : EdgesDone IsLinger t s z ws ws′
+  module _ {ws′ : List ℕ} (lingered : (w : WaitReady (s .nodes) x (ltb new old) rate ws) → WaitDone IsLinger w ws′) where
+    one : EdgesDone IsLinger t s x ws ws′
     unfolding waits-ready
     one = lingered waits-ready
 
-    label : (goal : ℕ) (e : Edge) → Leaves (graphOf t goal) (z .first + z .index) e → IsWait e → IsDelay e ⊎ IsLinger e
+    label : (goal : ℕ) (e : Edge) → Leaves (graphOf t goal) (nodeIn x) e → IsWait e → IsDelay e ⊎ IsLinger e
     label goal e l w =
-        wait-label (automatonOf t) goal (placeAt z) (r .corner .place) (z .index) (r .corner .inside) e (corner-leaves (r .corner) goal e l) w
+        wait-label (automatonOf t) goal (placeAt (x .at)) (r .corner .place) (x .at .index) (r .corner .inside) e (corner-leaves (r .corner) goal e l) w
 
     -- Where it is not allowed there is nothing more to do.
-    waits-none : ((goal : ℕ) (e : Edge) → Leaves (graphOf t goal) (z .first + z .index) e → IsDelay e → ⊥) → EdgesDone IsWait t s z ws ws′
-    waits-none none goal hand =
-        relaxes-fewer IsWait (one goal hand) (λ e l w. ⊎-elim (λ q. absurd (none goal e l q)) (λ q. q) (label goal e l w))
+    waits-none : ((goal : ℕ) (e : Edge) → Leaves (graphOf t goal) (nodeIn x) e → IsDelay e → ⊥) → EdgesDone IsWait t s x ws ws′
+    waits-none none goal h =
+        relaxes-fewer IsWait (one goal h) (λ e l w. ⊎-elim (λ q. absurd (none goal e l q)) (λ q. q) (label goal e l w))
 
-    pub waits-outside : within (take (delayed .timers) (s .ceilings)) (view delayed) ≡ false → EdgesDone IsWait t s z ws ws′
+    pub waits-outside : within (take (delayed .timers) (s .ceilings)) (view delayed) ≡ false → EdgesDone IsWait t s x ws ws′
     waits-outside f =
         waits-none
         (λ goal e l q. true≢false (sym (delay-allowed (r .corner) goal e l q .ceilings) ∙ sym within-same ∙ f))
 
     module _ {hs : List ℕ} (h : Stands s delayed hs) where
-      inside : within (automatonOf t .ceilings) (delayedTo (placeAt z) .region) ≡ true
+      inside : within (automatonOf t .ceilings) (delayedTo (placeAt (x .at)) .region) ≡ true
       inside = sym within-same ∙ h .inside
 
-      window : InRow rs (z .mode) hs ↔ (meetsAll (modeAt (automatonOf t) (z .mode) .conditions) (delayedTo (placeAt z) .region) ≡ true)
+      window : InRow rs (x .at .mode) hs ↔ (meetsAll (modeAt (automatonOf t) (x .at .mode) .conditions) (delayedTo (placeAt (x .at)) .region) ≡ true)
       window = delayed-meets (r .setting) (r .corner) delayed (k .is) inside hs (h .halves-are)
 
-      pub waits-unmet : (InRow rs (z .mode) hs → ⊥) → EdgesDone IsWait t s z ws ws′
+      pub waits-unmet : (InRow rs (x .at .mode) hs → ⊥) → EdgesDone IsWait t s x ws ws′
       waits-unmet unmet = waits-none (λ goal e l q. unmet (window .1 (delay-allowed (r .corner) goal e l q .conditions)))
 
       -- Where it is, it follows.
-      module _ (met : InRow rs (z .mode) hs) (to : ℕ)
-          (to-is : to ≡ nodeNumber (take (delayed .timers) (s .ceilings)) (nodeOf (z .mode) (view delayed) 0)) where
-        pub delays-ready : DelayReady (s .nodes) z to (ltb new old) rate ws′
+      module _ (met : InRow rs (x .at .mode) hs) (to : ℕ)
+          (to-is : to ≡ nodeNumber (take (delayed .timers) (s .ceilings)) (nodeOf (x .at .mode) (view delayed) 0)) where
+        pub delays-ready : DelayReady (s .nodes) x to (ltb new old) rate ws′
         unfolding waits-ready
         delays-ready = record {
-          wait = wait-again waits-ready (one (r .goal) (r .hand) .hand);
+          wait = wait-again waits-ready (hold-again (r .holding) (one (r .goal) (r .holding)));
           conditions = window .0 met;
           ceilings = inside;
           to-is = to-is ∙ delayed-number (r .setting) (r .corner) delayed (k .is);
@@ -106,9 +108,9 @@ module _ {t rs : List ℕ} {s : Space} {z : NodeRegion} {ws : List ℕ} (r : Edg
 
         pub waits-done :
             {ws″ : List ℕ}
-            → ((d : DelayReady (s .nodes) z to (ltb new old) rate ws′) → WaitDone IsDelay (d .wait) ws″)
-            → EdgesDone IsWait t s z ws ws″
+            → ((d : DelayReady (s .nodes) x to (ltb new old) rate ws′) → WaitDone IsDelay (d .wait) ws″)
+            → EdgesDone IsWait t s x ws ws″
         unfolding delays-ready waits-ready
-        waits-done delays goal hand =
-            let kept = one goal hand in
-            relaxes-then IsWait kept (delays delays-ready goal (kept .hand)) (λ e l w. ⊎-elim (λ q. inr q) (λ q. inl q) (label goal e l w))
+        waits-done delays goal held =
+            let kept = one goal held in
+            relaxes-then IsWait kept (delays delays-ready goal (hold-again held kept)) (λ e l w. ⊎-elim (λ q. inr q) (λ q. inl q) (label goal e l w))

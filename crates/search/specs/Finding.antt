@@ -9,24 +9,13 @@ use Rattle.semantics.specs.Graph.Path.{reached, infinity}
 use Rattle.semantics.specs.Paths.Words.{stored}
 use Rattle.semantics.specs.Paths.Explored.{Explored}
 use Rattle.semantics.specs.Paths.Near.{BestTarget, TargetWithin}
-use Rattle.reader.specs.Held.{IsTable}
 use Rattle.queue.specs.Tournament.{none}
 use Rattle.queue.specs.Queue.{lows, slotAt, Queue}
-use Rattle.search.specs.declared.near.Cost.{Cost as CostHeld}
-use Rattle.search.specs.declared.space.Space.{Space}
-use Rattle.search.specs.Space.{graphOf, startOf, IsSpace, Setting}
+use Rattle.space.specs.declared.Space.{Space}
+use Rattle.space.specs.Space.{graphOf, startOf, Setting}
+use Rattle.near.specs.declared.Cost.{Cost as CostHeld}
+use Rattle.near.specs.Near.{costEntry}
 use Rattle.search.specs.Exploring.{costsIn, Between}
-use Rattle.search.specs.Near.{costEntry}
-
--- The struct is that of a table.
-pub record StartReady (s : Space) : Type 0 where
-  pub table : List ℕ
-  pub is-table : IsTable table
-  pub is-space : IsSpace table s
-
--- The node is where the chains of that table begin.
-abbrev pub IsStart : Space → ℕ → Type 0
-IsStart s r = (t : List ℕ) → IsTable t → IsSpace t s → r ≡ startOf t
 
 -- There are words for the nodes, of which the start is one.
 pub record SeedReady (nodes start : ℕ) (ws : List ℕ) : Type 0 where

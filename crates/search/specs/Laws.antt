@@ -1,5 +1,3 @@
 -- What a caller may conclude from the contracts.
-pub mod Shares
-pub mod NodeRegion
 pub mod Answers
 pub mod Goal

@@ -11,11 +11,11 @@ use Rattle.semantics.specs.Graph.CornerGraph.{numberOf}
 use Rattle.semantics.specs.Bounds.Steps.{rateAt}
 use Rattle.semantics.specs.Answers.Waiting.{delayedTo}
 use Rattle.reader.specs.Held.{automatonOf}
-use Rattle.regions.specs.declared.nodes.NodeRegion.{NodeRegion}
 use Rattle.regions.specs.Held.{view}
-use Rattle.search.specs.declared.space.Space.{Space}
-use Rattle.search.specs.Space.{placeAt}
-use Rattle.search.specs.Edges.{EdgesReady, EdgesDone}
+use Rattle.space.specs.declared.Space.{Space}
+use Rattle.space.specs.Space.{placeAt}
+use Rattle.search.specs.declared.edges.Source.{Source}
+use Rattle.search.specs.Edges.{Short, EdgesReady, EdgesDone}
 
 abbrev pub IsDelay : Edge → Type 0
 IsDelay e = e .label ≡ 64
@@ -24,23 +24,24 @@ abbrev pub IsLinger : Edge → Type 0
 IsLinger e = e .label ≡ 65
 
 -- The node of a struct is in hand in the graph of a table; `empty` says whether its r0 is, and `rate` is its mode's.
-pub record WaitReady (nodes : ℕ) (z : NodeRegion) (empty : Bool) (rate : ℕ) (ws : List ℕ) : Type 0 where
+pub record WaitReady (nodes : ℕ) (x : Source) (empty : Bool) (rate : ℕ) (ws : List ℕ) : Type 0 where
   pub table : List ℕ
   pub rules : List ℕ
   pub space : Space
-  pub edges : EdgesReady table rules space z ws
+  pub edges : EdgesReady table rules space x ws
+  pub short : Short space x
   pub nodes-are : nodes ≡ space .nodes
-  pub empty-is : empty ≡ noZero (view (z .region))
-  pub rate-is : rate ≡ rateAt (automatonOf table) (placeAt z)
+  pub empty-is : empty ≡ noZero (view (x .at .region))
+  pub rate-is : rate ≡ rateAt (automatonOf table) (placeAt (x .at))
 
 -- For such a table, its edges that fit are relaxed.
 abbrev pub WaitDone :
-    (Edge → Type 0) → {nodes : ℕ} {z : NodeRegion} {empty : Bool} {rate : ℕ} {ws : List ℕ} → WaitReady nodes z empty rate ws → List ℕ → Type 0
-WaitDone Fits {nodes} {z} {empty} {rate} {ws} r ws′ = EdgesDone Fits (r .table) (r .space) z ws ws′
+    (Edge → Type 0) → {nodes : ℕ} {x : Source} {empty : Bool} {rate : ℕ} {ws : List ℕ} → WaitReady nodes x empty rate ws → List ℕ → Type 0
+WaitDone Fits {nodes} {x} {empty} {rate} {ws} r ws′ = EdgesDone Fits (r .table) (r .space) x ws ws′
 
 -- "Allowed if the new region meets the mode's conditions and every ceiling"; `to` is its corner 0.
-pub record DelayReady (nodes : ℕ) (z : NodeRegion) (to : ℕ) (empty : Bool) (rate : ℕ) (ws : List ℕ) : Type 0 where
-  pub wait : WaitReady nodes z empty rate ws
-  pub conditions : meetsAll (modeAt (automatonOf (wait .table)) (z .mode) .conditions) (delayedTo (placeAt z) .region) ≡ true
-  pub ceilings : within (automatonOf (wait .table) .ceilings) (delayedTo (placeAt z) .region) ≡ true
-  pub to-is : to ≡ numberOf (automatonOf (wait .table)) (delayedTo (placeAt z)) 0
+pub record DelayReady (nodes : ℕ) (x : Source) (to : ℕ) (empty : Bool) (rate : ℕ) (ws : List ℕ) : Type 0 where
+  pub wait : WaitReady nodes x empty rate ws
+  pub conditions : meetsAll (modeAt (automatonOf (wait .table)) (x .at .mode) .conditions) (delayedTo (placeAt (x .at)) .region) ≡ true
+  pub ceilings : within (automatonOf (wait .table) .ceilings) (delayedTo (placeAt (x .at)) .region) ≡ true
+  pub to-is : to ≡ numberOf (automatonOf (wait .table)) (delayedTo (placeAt (x .at))) 0

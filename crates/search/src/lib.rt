@@ -7,19 +7,13 @@ ghost use Rattle.rules.specs.Rules.{IsRules};
 ghost use Rattle.search.specs.Outcome.{answered, searched, cleared};
 
 mod edges;
-pub mod moves;
-pub mod near;
 mod settle;
-pub mod space;
 mod words;
 
 use reader::table::TABLE;
 use regions::nodes;
 use regions::nodes::Nodes;
 use rules::RULES;
-
-// An unreached node has this in both of its words.
-pub const INFINITY: u32 = 0xFFFF_FFFF;
 
 // "8: E above 65,536".
 const TOO_MANY_NODES: u8 = 8;

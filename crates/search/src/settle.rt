@@ -1,12 +1,13 @@
 // The search in Dijkstra's order.
 ghost use Rattle.search.specs.Finding.{FindReady, FoundGoal};
-use crate::INFINITY;
 use crate::edges;
-use crate::near::Cost;
-use crate::space::Space;
+use crate::edges::Source;
+use near::Cost;
+use near::INFINITY;
 use reader::table::TABLE;
 use regions::nodes;
 use rules::RULES;
+use space::Space;
 
 // Settles the nodes in the order of their costs up to the first of the goal, whose cost it gives: both INFINITY if there is none.
 pub fn settle_all(
@@ -23,15 +24,19 @@ pub fn settle_all(
     let mut node = queue::first(words);
     while node < space.nodes {
         let at = nodes::region_at(space.timers, ceilings, node);
+        let charge = queue::charge_of(words, node);
+        let steps = queue::steps_of(words, node);
         if at.mode == goal {
-            return Cost {
-                charge: queue::charge_of(words, node),
-                steps: queue::steps_of(words, node),
-            };
+            return Cost { charge, steps };
         }
+        let from = Source {
+            at,
+            charge,
+            steps: steps + 1,
+        };
+        edges::relax_edges(words, space, table, rules, from);
+        // It is settled last: until then no node that is lowered goes up beyond it.
         queue::settle(words, space.nodes, node);
-        edges::relax_waits(words, space, table, rules, at);
-        edges::relax_moves(words, space, table, rules, at);
         node = queue::first(words);
     }
     Cost {

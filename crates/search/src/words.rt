@@ -1,10 +1,10 @@
 // The words of a search: the charge of node v stands at 2v, and its steps at 2v + 1.
 ghost use mathlib.Core.Path.{_≡_};
 ghost use lib.ListN.{length, replicate};
-ghost use Rattle.search.specs.Near.{isNear, KeepReady, KeptNear};
+ghost use Rattle.search.specs.Keep.{isNear, KeepReady, KeptNear};
 ghost use Rattle.search.specs.Finding.{SeedReady, Seeded};
-use crate::INFINITY;
-use crate::near::Cost;
+use near::Cost;
+use near::INFINITY;
 
 // Every word becomes x.
 pub fn fill(words: &mut [u32], x: u32)

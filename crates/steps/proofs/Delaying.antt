@@ -15,14 +15,14 @@ use Rattle.rules.specs.Rules.{InRow, IsRules}
 use Rattle.regions.specs.declared.Region.{Region}
 use Rattle.regions.specs.declared.nodes.NodeRegion.{NodeRegion}
 use Rattle.regions.specs.Held.{pack, view, Valid, HalfRoom}
-use Rattle.search.specs.declared.space.Space.{Space}
+use Rattle.space.specs.declared.Space.{Space}
 use Rattle.steps.specs.declared.Stand.{Stand}
-use Rattle.search.specs.Space.{Setting, IsCorner, placeAt}
+use Rattle.space.specs.Space.{Setting, IsCorner, placeAt}
 use Rattle.steps.specs.Leading.{IsLed, DelayEdges, LedDelayReady, StepReady, Silent, TriedOne}
-use Rattle.search.proofs.Settings.{halvesOf}
+use Rattle.space.proofs.Settings.{halvesOf}
 use Rattle.steps.proofs.Sets.{refused}
 use Rattle.steps.proofs.Standing.{stand-setting}
-use Rattle.search.proofs.Delayed.{delayed-valid, delayed-seen, delayed-within, delayed-is-place, halves-ready, delayed-meets, delayed-number}
+use Rattle.space.proofs.Delayed.{delayed-valid, delayed-seen, delayed-within, delayed-is-place, halves-ready, delayed-meets, delayed-number}
 use Rattle.steps.proofs.LeadingWaits.{delay-beyond, delay-unmet, led-delay-ready, delay-tried}
 
 module _ {t : List ℕ} {s : Space} {x : NodeRegion} {z : Stand} {ws : List ℕ} (w : StepReady t s x z ws) {rs : List ℕ} (rules : IsRules t rs)

@@ -27,12 +27,12 @@ use Rattle.reader.specs.Theorems.Access.{rate-within}
 use Rattle.regions.specs.declared.Region.{Region}
 use Rattle.regions.specs.declared.nodes.NodeRegion.{NodeRegion}
 use Rattle.regions.specs.Held.{view, Valid}
-use Rattle.search.specs.declared.space.Space.{Space}
+use Rattle.space.specs.declared.Space.{Space}
 use Rattle.steps.specs.declared.Stand.{Stand}
-use Rattle.search.specs.Space.{placeAt}
+use Rattle.space.specs.Space.{placeAt}
 use Rattle.steps.specs.Steps.{Marked, Tells}
 use Rattle.steps.specs.Leading.{Adds, LedTo, LeadReady, IsLed, DelayEdges, LedDelayReady, StepReady, Silent, TriedOne}
-use Rattle.search.proofs.Settings.{place-row, top-below, corner-number, corner-below}
+use Rattle.space.proofs.Settings.{place-row, top-below, corner-number, corner-below}
 use Rattle.steps.proofs.Sets.{none-marked}
 use Rattle.steps.proofs.Leads.{weight-small}
 use Rattle.steps.proofs.Standing.{stand-proper, stand-among, row-inside, corners-ready, tight-grows, silent-here, tried-one}

@@ -1,11 +1,11 @@
 -- The corners to which the edges of a step lead, edge by edge.
 -- Assumes nothing.
-use mathlib.Core.Path.{_≡_, refl, sym, ap, subst, _∙_}
+use mathlib.Core.Path.{_≡_, refl, sym, ap, _∙_}
 use mathlib.Core.Bool.{Bool, true, false, cond}
 use mathlib.Core.Logic.{_⊎_, inl, inr}
 use mathlib.Core.List.{List}
 use Prim.Native.Nat.{ℕ, _+_, _≤_, _<_}
-use native.Mathlib.Decide.{ℕ-discrete, decLt}
+use native.Mathlib.Decide.{ℕ-discrete}
 use native.Mathlib.Omega.{arith}
 use lib.Dec.{ltb}
 use lib.ListN.{getD}
@@ -13,10 +13,10 @@ use Rattle.semantics.specs.Region.{PricedRegion, top}
 use Rattle.reader.specs.Held.{pad}
 use Rattle.steps.specs.declared.Stand.{Stand}
 use Rattle.steps.specs.Steps.{Marked}
-use Rattle.search.specs.Images.{LastAtMost}
+use Rattle.steps.specs.Images.{cornerOf}
 use Rattle.steps.specs.Leading.{Adds, LedTo, IsLed, MoveEdges, DelayEdges}
-use Rattle.search.proofs.Settings.{padded-at}
-use Rattle.steps.proofs.Sets.{marked-few, none-marked}
+use Rattle.space.proofs.Settings.{padded-at}
+use Rattle.steps.proofs.Sets.{none-marked}
 
 module _ {z : Stand} {ws : List ℕ} {to : ℕ} where
   -- No edges lead nowhere.
@@ -56,54 +56,25 @@ module _ {z : Stand} {ws : List ℕ} {to : ℕ} where
     );
   }
 
--- There is one last place.
-last-one : {l : List ℕ} {last bound r k : ℕ} → LastAtMost l last bound r → LastAtMost l last bound k → k ≡ r
-last-one {l} {last} {bound} {r} {k} x y = at (decLt r k) (decLt k r)
-  where
-    at : Dec (r < k) → Dec (k < r) → k ≡ r
-    at (yes h) e = absurd (omega (arith, x .above k h (y .within), y .at-most))
-    at (no h) (yes e) = absurd (omega (arith, y .above r e (x .within), x .at-most))
-    at (no h) (no e) = omega arith
-
--- It goes by what is read.
-last-like :
-    (l k : List ℕ) {last bound r : ℕ} → ((i : ℕ) → getD l i 0 ≡ getD k i 0) → LastAtMost l last bound r → LastAtMost k last bound r
-last-like l k {last} {bound} {r} same x = record {
-  within = x .within;
-  at-most = omega (arith, x .at-most, same r);
-  above = λ i h b. omega (arith, x .above i h b, same i);
-}
-
--- The edges of a move from the corners below m.
-abbrev pub MovesBelow : List ℕ → ℕ → ℕ → ℕ → ℕ → ℕ → ℕ → Type 0
-MovesBelow prices last price m j weight i = (j < m) × MoveEdges prices last price j weight i
-
-module _ {z : Stand} {ws : List ℕ} {to : ℕ} (prices : List ℕ) (last price : ℕ) where
-  pub moves-none : IsLed z ws to (MovesBelow prices last price 0) 0
+-- The edges of a move, corner by corner.
+module _ {z : Stand} {ws : List ℕ} {to : ℕ} (map price : ℕ) where
+  pub moves-none : IsLed z ws to (MoveEdges map price 0) 0
   moves-none = led-none (λ j w i e. omega (arith, e .0))
 
   pub moves-more :
-      {m i set r : ℕ} → LastAtMost prices last m i → IsLed z ws to (MovesBelow prices last price m) set
-      → Adds (LedTo z ws to m price i) set i r → IsLed z ws to (MovesBelow prices last price (m + 1)) r
+      {m i set r : ℕ} → i ≡ cornerOf map m → IsLed z ws to (MoveEdges map price m) set → Adds (LedTo z ws to m price i) set i r
+      → IsLed z ws to (MoveEdges map price (m + 1)) r
   moves-more {m} {i} is =
-      led-more (λ k w n e. (omega (arith, e .0), e .1)) (omega arith, (is, refl)) (λ k w n e. only k w n e (ℕ-discrete k m))
+      led-more (λ k w n e. (omega (arith, e .0), e .1, e .2)) (omega arith, is, refl) (λ k w n e. only k w n e (ℕ-discrete k m))
     where
       only :
-          (k w n : ℕ) → MovesBelow prices last price (m + 1) k w n → Dec (k ≡ m)
-          → MovesBelow prices last price m k w n ⊎ ((k ≡ m) × (w ≡ price) × (n ≡ i))
-      only k w n e (yes q) = inr (q, e .1 .1, last-one is (rw q at (e .1 .0)))
-      only k w n e (no q) = inl (omega (arith, e .0), e .1)
+          (k w n : ℕ) → MoveEdges map price (m + 1) k w n → Dec (k ≡ m) → MoveEdges map price m k w n ⊎ ((k ≡ m) × (w ≡ price) × (n ≡ i))
+      only k w n e (yes q) = inr (q, e .2, e .1 ∙ ap (cornerOf map) q ∙ sym is)
+      only k w n e (no q) = inl (omega (arith, e .0), e .1, e .2)
 
-  -- All were looked at. Zeros behind the prices change nothing.
-  pub moves-all :
-      {m r : ℕ} (l : List ℕ) (k : ℕ) → prices ≡ pad 4 l → last ≡ k → 4 ≤ m → z .set < 16 → IsLed z ws to (MovesBelow prices last price m) r
-      → IsLed z ws to (MoveEdges l k price) r
-  moves-all {m} {r} l k e f h few led =
-      let same : (i : ℕ) → getD prices i 0 ≡ getD l i 0 = padded-at 4 l e in
-      subst (λ (n : ℕ). IsLed z ws to (MoveEdges l n price) r) f
-      (led-alike (λ j w i x. (last-like prices l same (x .1 .0), x .1 .1))
-      (λ j w i n x. (omega (arith, marked-few (z .set) j few n), (last-like l prices (λ n. sym (same n)) (x .0), x .1)))
-      led)
+  -- All were looked at.
+  pub moves-all : {m r : ℕ} → m ≤ 4 → 4 ≤ m → IsLed z ws to (MoveEdges map price m) r → IsLed z ws to (MoveEdges map price 4) r
+  moves-all {m} few past led = let all : m ≡ 4 = omega arith in rw all at led
 
 -- The edges of a delay to the corners below m.
 abbrev pub DelaysBelow : List ℕ → ℕ → ℕ → ℕ → ℕ → ℕ → ℕ → Type 0

@@ -14,19 +14,21 @@ use Rattle.semantics.specs.Bounds.Steps.{movedBy, moves, view-step}
 use Rattle.semantics.specs.Bounds.Shapes.{shape-charge, shape-meetsAll}
 use Rattle.semantics.specs.Answers.Moving.{movedTo, edge-move}
 use Rattle.semantics.specs.Answers.Marks.{Led}
-use Rattle.reader.specs.Held.{automatonOf}
+use Rattle.reader.specs.Held.{automatonOf, fieldsOf, moveFieldsAt}
 use Rattle.rules.specs.Rules.{none, IsRules}
 use Rattle.regions.specs.declared.nodes.NodeRegion.{NodeRegion}
 use Rattle.regions.specs.Held.{view}
-use Rattle.search.specs.declared.space.Space.{Space}
+use Rattle.space.specs.declared.Space.{Space}
 use Rattle.steps.specs.declared.Stand.{Stand}
 use Rattle.steps.specs.declared.Next.{Next}
-use Rattle.search.specs.Space.{placeAt}
-use Rattle.search.specs.Moves.{Open, OpenMove, OpenFrom}
-use Rattle.steps.specs.Steps.{Marked}
-use Rattle.steps.specs.Leading.{StepReady, Allowed, Silent, TriedOne, Tried, MoveByte, noStep}
-use Rattle.search.proofs.Settings.{halvesOf}
-use Rattle.search.proofs.MoveEdges.{open-edge, edge-open}
+use Rattle.space.specs.Space.{placeAt}
+use Rattle.space.specs.Images.{ImageReady}
+use Rattle.space.specs.Moves.{Open, OpenMove, OpenFrom}
+use Rattle.steps.specs.Images.{IsImage}
+use Rattle.steps.specs.Steps.{Marked, noStep}
+use Rattle.steps.specs.Leading.{StepReady, Allowed, AlongReady, Silent, TriedOne, Tried, MoveByte}
+use Rattle.space.proofs.Settings.{halvesOf}
+use Rattle.space.proofs.MoveEdges.{open-edge, edge-open}
 use Rattle.steps.proofs.Standing.{stand-corners, silent-here}
 use Rattle.steps.proofs.Trying.{tried-none, tried-found}
 
@@ -57,16 +59,32 @@ module _ {t : List ℕ} {s : Space} {x : NodeRegion} {z : Stand} {ws : List ℕ}
           o .passed k h b (rw is at (m .there)) (rw is at (m .source)) (rw are (rw is at opens))
 
   -- A move that is not passed over.
-  pub open-allowed : {e : ℕ} → OpenMove t rs hs (x .mode) e → e < none → Allowed t z e
+  open-allowed : {e : ℕ} → OpenMove t rs hs (x .mode) e → e < none → Allowed t z e
   open-allowed {e} o h =
       let c = w .here .corner in
       let there = o .there h in
-      let opens : Open t rs (halvesOf (view (x .region))) e = rw are at (o .is-open h) in
+      let opens : Open rs (halvesOf (view (x .region))) e = rw are at (o .is-open h) in
       let m = open-edge t rs (w .ready .setting .is-table) rules p (c .place) 0 e there (o .source h) opens in
       let charged = shape-meetsAll _ _ (shape-charge (moveAt a e .price) (movedTo a e p .region)) (modeAt a (moveAt a e .target) .conditions) in
       let f = view-step a p (moves e h there (o .source h) (m .guard) (sym charged ∙ m .invariant)) in
       let y : Place = record { mode = moveAt a e .target; region = movedBy a e (p .region) } in
       (there, (y, subst (λ (q : Place). step a e q ≡ some y) (w .here .place-is) f))
+
+  -- What is asked for the image of its reset byte, and to try it with that.
+  module _ {e : ℕ} (o : OpenMove t rs hs (x .mode) e) (h : e < none) {byte : ℕ} (byte-is : byte ≡ moveFieldsAt (fieldsOf t) e .resets) where
+    pub image-ready : ImageReady s x byte
+    image-ready = record {
+      table = t;
+      rules = w .rules;
+      setting = w .ready .setting;
+      corner = w .here .corner;
+      move = e;
+      there = o .there h;
+      byte-is = byte-is;
+    }
+
+    pub along-ready : {image : ℕ} → IsImage s x byte image → AlongReady t s z ws image e
+    along-ready {image} is = record { at = x; ready = w; allowed = open-allowed o h; is = subst (λ (b : ℕ). IsImage s x b image) byte-is is }
 
   -- The first of them,
   pub silent-first : {e : ℕ} → OpenFrom t rs hs (x .mode) (z .byte) e → SilentTo t s z ws e

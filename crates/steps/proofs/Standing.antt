@@ -23,14 +23,14 @@ use Rattle.rules.specs.Rules.{IsRules}
 use Rattle.regions.specs.declared.nodes.NodeRegion.{NodeRegion}
 use Rattle.regions.specs.Held.{view}
 use Rattle.regions.specs.Nodes.{packNodeRegion}
-use Rattle.search.specs.declared.space.Space.{Space}
+use Rattle.space.specs.declared.Space.{Space}
 use Rattle.steps.specs.declared.Stand.{Stand}
 use Rattle.steps.specs.declared.Next.{Next}
-use Rattle.search.specs.Space.{Setting, placeAt}
+use Rattle.space.specs.Space.{Setting, placeAt}
 use Rattle.steps.specs.Steps.{Marked, standPlace, Tells, StandReady, Leads}
 use Rattle.steps.specs.Leading.{TightAt, CornersReady, StepReady, Silent, TriedOne}
-use Rattle.search.specs.Laws.NodeRegion.{corner-at}
-use Rattle.search.proofs.Settings.{place-row, place-below, setting-proper, corner-number, corner-below}
+use Rattle.space.specs.Laws.NodeRegion.{corner-at}
+use Rattle.space.proofs.Settings.{place-row, place-below, setting-proper, corner-number, corner-below}
 use Rattle.steps.proofs.Sets.{none-marked, some-marked}
 
 -- What `region_at` gives is of the walk's place.

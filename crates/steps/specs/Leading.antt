@@ -8,23 +8,22 @@ use mathlib.Core.Option.{some}
 use Prim.Native.Nat.{ℕ, _+_, _*_, _≤_, _<_}
 use lib.Dec.{ltb}
 use lib.ListN.{length, getD}
-use Rattle.semantics.specs.Automaton.{moveAt}
 use Rattle.semantics.specs.Region.{PricedRegion, top}
 use Rattle.semantics.specs.Chain.{Place, step}
 use Rattle.semantics.specs.Graph.Path.{Entry, infinity, chargeAt, stepsAt}
 use Rattle.semantics.specs.Answers.Marks.{Led}
-use Rattle.reader.specs.Held.{automatonOf}
-use Rattle.rules.specs.Rules.{none}
+use Rattle.reader.specs.Held.{automatonOf, fieldsOf, moveFieldsAt, IsTable}
+use Rattle.rules.specs.Rules.{none, IsRules}
 use Rattle.regions.specs.declared.Region.{Region}
 use Rattle.regions.specs.declared.nodes.NodeRegion.{NodeRegion}
 use Rattle.regions.specs.Held.{view, Valid}
-use Rattle.search.specs.declared.space.Space.{Space}
+use Rattle.space.specs.declared.Space.{Space}
 use Rattle.steps.specs.declared.Stand.{Stand}
 use Rattle.steps.specs.declared.Next.{Next}
-use Rattle.search.specs.Space.{IsCorner, placeAt}
-use Rattle.search.specs.Moves.{Open}
-use Rattle.search.specs.Images.{LastAtMost}
-use Rattle.steps.specs.Steps.{Marked, standPlace, Tells, StandReady, Leads}
+use Rattle.space.specs.Space.{IsCorner, placeAt}
+use Rattle.space.specs.Moves.{OpenFrom}
+use Rattle.steps.specs.Images.{cornerOf, IsImage}
+use Rattle.steps.specs.Steps.{Marked, standPlace, Tells, StandReady, Leads, noStep}
 
 -- The set r is the set with the corner, if it fits, and otherwise the set.
 pub record Adds (Fits : Type 0) (set corner r : ℕ) : Type 0 where
@@ -64,15 +63,13 @@ pub record IsLed (z : Stand) (ws : List ℕ) (to : ℕ) (E : ℕ → ℕ → ℕ
   pub sixteen : r < 16
   pub marks : (i : ℕ) → Marked r i ↔ ((j : ℕ) × (weight : ℕ) × E j weight i × LedTo z ws to j weight i)
 
--- Those of a move: the region after the resets has prices by which each corner goes to the last one whose price is at most its own index.
-abbrev pub MoveEdges : List ℕ → ℕ → ℕ → ℕ → ℕ → ℕ → Type 0
-MoveEdges prices last price j weight i = LastAtMost prices last j i × (weight ≡ price)
+-- Those of a move from the corners below m: the map says which corner goes where.
+abbrev pub MoveEdges : ℕ → ℕ → ℕ → ℕ → ℕ → ℕ → Type 0
+MoveEdges map price m j weight i = (j < m) × (i ≡ cornerOf map j) × (weight ≡ price)
 
-pub record LedMoveReady (z : Stand) (ws : List ℕ) (moved : Region) (to price : ℕ) : Type 0 where
+pub record LedMoveReady (z : Stand) (ws : List ℕ) (map to price : ℕ) : Type 0 where
   pub corners : CornersReady z ws
-  pub valid : Valid moved
-  pub first-price : getD (view moved .prices) 0 0 ≡ 0
-  pub there : 2 * (to + top (view moved)) + 1 < length ws
+  pub there : (j : ℕ) → j < 4 → 2 * (to + cornerOf map j) + 1 < length ws
   pub small : price ≤ 65535
 
 -- Those of a delay: the region after it has prices by which each corner comes from the one whose index is its price, at the rate if the region
@@ -108,9 +105,10 @@ pub record TriedOne (t : List ℕ) (s : Space) (z : Stand) (ws : List ℕ) (k : 
   pub leads : r .set ≢ 0 → LeadsOn t s z ws r
   pub silent : r .set ≡ 0 → Silent t s z ws k
 
--- Those of some bytes were: r has the least of them that leads on, or 66 if none does.
+-- Those of some bytes were: r has the least of them that leads on, or is no step if none does.
 pub record Tried (t : List ℕ) (s : Space) (z : Stand) (ws : List ℕ) (Among : ℕ → Type 0) (r : Next) : Type 0 where
   pub few : r .byte ≤ 66
+  pub none : r .byte ≡ 66 → r ≡ noStep
   pub leads : r .byte < 66 → Among (r .byte) × LeadsOn t s z ws r
   pub none-before : (k : ℕ) → Among k → k < r .byte → Silent t s z ws k
 
@@ -120,10 +118,6 @@ MoveByte z k = (z .byte ≤ k) × (k < 64)
 
 abbrev pub OnlyByte : ℕ → Stand → ℕ → Type 0
 OnlyByte b z k = (z .byte ≤ k) × (k ≡ b)
-
--- No step.
-abbrev pub noStep : Next
-noStep = record { byte = 66; first = 0; set = 0 }
 
 -- r is the step, if it marks a corner, and otherwise none.
 pub record IsFound (byte first set : ℕ) (r : Next) : Type 0 where
@@ -139,6 +133,24 @@ pub record StepReady (t : List ℕ) (s : Space) (x : NodeRegion) (z : Stand) (ws
 -- The step of a move is allowed.
 abbrev pub Allowed : List ℕ → Stand → ℕ → Type 0
 Allowed t z e = (e < length (automatonOf t .moves)) × ((y : Place) × (step (automatonOf t) e (standPlace t z) ≡ some y))
+
+-- And the image is that of its reset byte, from the place at which the walk stands.
+pub record AlongReady (t : List ℕ) (s : Space) (z : Stand) (ws : List ℕ) (image e : ℕ) : Type 0 where
+  pub at : NodeRegion
+  pub ready : StepReady t s at z ws
+  pub allowed : Allowed t z e
+  pub is : IsImage s at (moveFieldsAt (fieldsOf t) e .resets) image
+
+-- The byte is one from which on the moves of a mode of the table t are looked at. What is said of the first that is not passed over holds for every
+-- table whose rules these are.
+abbrev pub FromMode : List ℕ → List ℕ → ℕ → ℕ → Type 0
+FromMode t rs mode byte = IsTable t × IsRules t rs × (mode < length (automatonOf t .modes)) × (byte ≤ 64)
+
+abbrev pub FromReady : List ℕ → ℕ → ℕ → Type 0
+FromReady rs mode byte = (t : List ℕ) × FromMode t rs mode byte
+
+abbrev pub FromDone : List ℕ → List ℕ → ℕ → ℕ → ℕ → Type 0
+FromDone rs hs mode byte r = (t : List ℕ) → FromMode t rs mode byte → OpenFrom t rs hs mode byte r
 
 -- What is said of linger holds for every space of which the walk stands so.
 abbrev pub LingerReady : List ℕ → NodeRegion → Stand → List ℕ → Type 0

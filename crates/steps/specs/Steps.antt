@@ -13,10 +13,10 @@ use Rattle.semantics.specs.Graph.Path.{Entry, reached, infinity, chargeAt, step
 use Rattle.semantics.specs.Graph.CornerGraph.{numberOf}
 use Rattle.semantics.specs.Answers.Marks.{Led}
 use Rattle.reader.specs.Held.{automatonOf}
-use Rattle.search.specs.declared.space.Space.{Space}
+use Rattle.space.specs.declared.Space.{Space}
 use Rattle.steps.specs.declared.Stand.{Stand}
 use Rattle.steps.specs.declared.Next.{Next}
-use Rattle.search.specs.Space.{Setting, placeOf}
+use Rattle.space.specs.Space.{Setting, placeOf}
 
 -- Corner j is in the set, which has a bit for each corner.
 abbrev pub Marked : ℕ → ℕ → Type 0
@@ -57,7 +57,11 @@ pub record Leads (t : List ℕ) (l : ℕ) (d : ℕ → Entry) (z : Stand) (r : N
   pub corner : ℕ
   pub marked : Marked (r .set) corner
 
--- r has the least byte, from the walk's on, along whose step a tight edge leads on; or 66 if there is none.
+-- No step: a byte that no step has, and 0 for the place and its corners.
+abbrev pub noStep : Next
+noStep = record { byte = 66; first = 0; set = 0 }
+
+-- r has the least byte, from the walk's on, along whose step a tight edge leads on; or is no step if there is none.
 pub record IsNext (t : List ℕ) (l : ℕ) (d : ℕ → Entry) (z : Stand) (r : Next) : Type 0 where
   pub from : z .byte ≤ r .byte
   pub few : r .byte ≤ 66
@@ -65,6 +69,7 @@ pub record IsNext (t : List ℕ) (l : ℕ) (d : ℕ → Entry) (z : Stand) (r : 
       (k : ℕ) (y : Place) (i : ℕ) → z .byte ≤ k → k < r .byte → step (automatonOf t) k (standPlace t z) ≡ some y
       → Led (automatonOf t) l d (standPlace t z) (z .steps) (Marked (z .set)) k y i → ⊥
   pub leads : r .byte < 66 → Leads t l d z r
+  pub none : r .byte ≡ 66 → r ≡ noStep
 
 -- For every goal, and every table of costs of which the words tell so.
 abbrev pub NextStep : List ℕ → Space → Stand → List ℕ → Next → Type 0

@@ -2,24 +2,22 @@
 ghost use mathlib.Core.Path.{_≡_};
 ghost use mathlib.Core.Bool.{true, cond};
 ghost use mathlib.Core.Logic.{_↔_};
-ghost use Prim.Native.Nat.{_+_, _<_, _≤_};
+ghost use Prim.Native.Nat.{_<_};
 ghost use lib.Dec.{ltb};
-ghost use lib.ListN.{length};
-ghost use Rattle.semantics.specs.Region.{top};
-ghost use Rattle.reader.specs.Held.{automatonOf, IsTable};
 ghost use Rattle.rules.specs.Rules.{IsRules};
 ghost use Rattle.regions.specs.Held.{view};
-ghost use Rattle.steps.specs.Steps.{Marked, StandReady, NextStep};
-ghost use Rattle.steps.specs.Leading.{Adds, TightReady, TightAt, LedTo, CornersReady, LeadReady, IsLed, MoveEdges, LedMoveReady, DelayEdges, LedDelayReady, TriedOne, Tried, MoveByte, OnlyByte, noStep, IsFound, StepReady, Allowed, LingerReady, LingerTried};
-ghost use Rattle.search.specs.Moves.{OpenFrom};
+ghost use Rattle.steps.specs.Steps.{Marked, StandReady, noStep, NextStep};
+ghost use Rattle.steps.specs.Images.{cornerOf, RegionReady, Goes, IsImage, Images, ImageDone};
+ghost use Rattle.steps.specs.Leading.{Adds, TightReady, TightAt, LedTo, CornersReady, LeadReady, IsLed, MoveEdges, LedMoveReady, DelayEdges, LedDelayReady, TriedOne, Tried, MoveByte, OnlyByte, IsFound, StepReady, AlongReady, FromReady, FromDone, LingerReady, LingerTried};
+ghost use Rattle.space.specs.Images.{ImageReady};
 use reader::table;
 use reader::table::TABLE;
 use regions::Region;
 use regions::nodes;
 use regions::nodes::NodeRegion;
 use rules::RULES;
-use search::moves;
-use search::space::Space;
+use space::Space;
+use space::moves;
 
 // Where a walk stands: the node of the place's corner 0, a bit for each of its corners that is marked, how many steps led to it, and the byte from
 // which on steps are still to be tried.
@@ -89,17 +87,22 @@ fn lead(words: &[u32], stand: Stand, set: u32, j: usize, to: usize, i: usize, we
     with(set, i)
 }
 
-// The corners to which a move leads from the marked ones along tight edges. The region after the resets says by its prices which corner goes where.
-fn led_by_move(words: &[u32], stand: Stand, moved: Region, to: usize, price: u32) -> u32
-    requires { ⌜ LedMoveReady stand (now words) moved to price ⌝ }
-    ensures { λ r. ⌜ IsLed stand (now (words .entry)) to (MoveEdges (view moved .prices) (top (view moved)) price) r ⌝ }
+// The corner to which corner j goes by a map, which has two bits for each.
+fn corner_of(map: u32, j: usize) -> usize
+    requires { ⌜ j < 4 ⌝ }
+    ensures { λ r. ⌜ r ≡ cornerOf map j ⌝ }
 {
-    let prices = moved.prices();
-    let last = moved.top();
+    ((map >> (2 * j)) % 4) as usize
+}
+
+// The corners to which a move leads from the marked ones along tight edges, by the map of its resets.
+fn led_by_move(words: &[u32], stand: Stand, map: u32, to: usize, price: u32) -> u32
+    requires { ⌜ LedMoveReady stand (now words) map to price ⌝ }
+    ensures { λ r. ⌜ IsLed stand (now (words .entry)) to (MoveEdges map price 4) r ⌝ }
+{
     let mut next = 0;
     for j in 0..Region::MOST_CORNERS {
-        let i = moves::last_at_most(prices, last, j);
-        next = lead(words, stand, next, j, to, i, price);
+        next = lead(words, stand, next, j, to, corner_of(map, j), price);
     }
     next
 }
@@ -139,20 +142,19 @@ fn led_by_delay(
 
 // The first move of a mode, from the byte on, that is not passed over, or NONE.
 fn move_from(
-    table: &[u8; TABLE],
     rules: &[u8; RULES],
     halves: [u8; Region::MOST_TIMERS],
     mode: usize,
     byte: usize,
 ) -> usize
-    requires { ⌜ IsTable (now table) × IsRules (now table) (now rules) × (mode < length (automatonOf (now table) .modes)) × (byte ≤ 64) ⌝ }
-    ensures { λ r. ⌜ OpenFrom (now (table .entry)) (now (rules .entry)) halves mode byte r ⌝ }
+    requires { ⌜ FromReady (now rules) mode byte ⌝ }
+    ensures { λ r. ⌜ FromDone (now (rules .entry)) halves mode byte r ⌝ }
 {
     let mut e = rules::first(rules, mode);
     while e < byte {
         e = rules::after(rules, e);
     }
-    moves::next_move(table, rules, halves, e)
+    moves::next_move(rules, halves, e)
 }
 
 // What is found where nothing leads on.
@@ -176,23 +178,70 @@ fn found(byte: usize, first: usize, set: u32) -> Next
     Next { byte, first, set }
 }
 
-// Tries the step of a move that is allowed.
+// The map of resets: where each corner of the region before them goes. The region after them says so by its prices.
+fn corners_after(moved: Region) -> u32
+    requires { ⌜ RegionReady moved ⌝ }
+    ensures { λ r. ⌜ Goes (view moved) r ⌝ }
+{
+    let prices = moved.prices();
+    let last = moved.top();
+    let from_0 = moves::last_at_most(prices, last, 0);
+    let from_1 = moves::last_at_most(prices, last, 1);
+    let from_2 = moves::last_at_most(prices, last, 2);
+    let from_3 = moves::last_at_most(prices, last, 3);
+    (from_0 + 4 * from_1 + 16 * from_2 + 64 * from_3) as u32
+}
+
+// What the resets of a byte do, in one word: the node of mode 0 to which they take corner 0, and the map above its 16 bits.
+fn image_of(space: Space, at: NodeRegion, resets: u8) -> u32
+    requires { ⌜ ImageReady space at resets ⌝ }
+    ensures { λ r. ⌜ IsImage space at resets r ⌝ }
+{
+    let region = at.region;
+    let ceilings = space.ceilings;
+    let moved = region.reset_all(resets);
+    let first = nodes::node_of(0, moved, 0, ceilings) as u32;
+    first + 65536 * corners_after(moved)
+}
+
+// It is found once for each reset byte, as in the search: a place has many moves to try, and there are eight of these bytes.
+fn image(images: &mut [u32; 8], space: Space, at: NodeRegion, resets: u8) -> u32
+    requires { ⌜ ImageReady space at resets × Images space at (now images) ⌝ }
+    ensures { λ r. ⌜ ImageDone space at resets (now (images .exit)) r ⌝ }
+{
+    let k = (resets % 8) as usize;
+    if images[k] == NO_IMAGE {
+        images[k] = image_of(space, at, resets);
+    }
+    images[k]
+}
+
+// No image has more than 24 bits.
+const NO_IMAGE: u32 = 0xFFFF_FFFF;
+
+// Tries the step of a move that is allowed. The image is that of its reset byte: the target mode's nodes come so many blocks behind those of mode 0.
 fn along_move(
     words: &[u32],
     space: Space,
     table: &[u8; TABLE],
-    at: NodeRegion,
     stand: Stand,
+    image: u32,
     e: usize,
 ) -> Next
-    requires { ⌜ StepReady (now table) space at stand (now words) × Allowed (now table) stand e ⌝ }
+    requires { ⌜ AlongReady (now table) space stand (now words) image e ⌝ }
     ensures { λ r. ⌜ TriedOne (now (table .entry)) space stand (now (words .entry)) e r ⌝ }
 {
-    let region = at.region;
-    let ceilings = space.ceilings;
-    let moved = region.reset_all(table::resets(table, e));
-    let to = nodes::node_of(table::target(table, e), moved, 0, ceilings);
-    let set = led_by_move(words, stand, moved, to, table::price(table, e) as u32);
+    let target = table::target(table, e) as u32;
+    // The unit's core multiplies in 32 bits.
+    let block = space.block as u32;
+    let to = (image % 65536 + target * block) as usize;
+    let set = led_by_move(
+        words,
+        stand,
+        image / 65536,
+        to,
+        table::price(table, e) as u32,
+    );
     Next {
         byte: e,
         first: to,
@@ -217,13 +266,15 @@ fn by_move(
     }
     let region = at.region;
     let halves = region.halves();
-    let mut e = move_from(table, rules, halves, at.mode, stand.byte);
+    let mut images = [NO_IMAGE; 8];
+    let mut e = move_from(rules, halves, at.mode, stand.byte);
     while e < rules::NONE {
-        let next = along_move(words, space, table, at, stand, e);
+        let by_resets = image(&mut images, space, at, table::resets(table, e));
+        let next = along_move(words, space, table, stand, by_resets, e);
         if next.set != 0 {
             return next;
         }
-        e = moves::next_move(table, rules, halves, rules::after(rules, e));
+        e = moves::next_move(rules, halves, rules::after(rules, e));
     }
     nowhere()
 }

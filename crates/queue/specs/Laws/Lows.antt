@@ -3,7 +3,6 @@
 use mathlib.Core.Path.{_≡_, refl, sym, ap, _∙_}
 use mathlib.Core.List.{List, [], _∷_}
 use Prim.Native.Nat.{ℕ, zero, suc, pred, _+_, _*_, _%_, _<_}
-use native.Mathlib.Numerals.{add-one}
 use native.Mathlib.Omega.{arith}
 use lib.ListN.{length, getD, set, drop}
 use lib.Seq.{set-getD}
@@ -53,21 +52,6 @@ odd-set (suc n) (c ∷ k ∷ ws) (suc zero) v x e h = refl
 odd-set (suc n) (c ∷ k ∷ ws) (suc (suc j)) v x e h =
     ap (λ (l : List ℕ). c ∷ k % 65536 ∷ l) (odd-set n ws j (pred v) x (omega arith) (omega arith))
 
-next-lows : (n : ℕ) (ws : List ℕ) (j : ℕ) → j ≡ 2 * n + 1 → lows (suc n) ws ≡ set (lows n ws) j (getD (lows n ws) j 0 % 65536)
-unfolding lows
-next-lows zero [] j e = refl
-next-lows zero (c ∷ []) zero e = absurd (omega arith)
-next-lows zero (c ∷ []) (suc j) e = refl
-next-lows zero (c ∷ k ∷ ws) zero e = absurd (omega arith)
-next-lows zero (c ∷ k ∷ ws) (suc zero) e = refl
-next-lows zero (c ∷ k ∷ ws) (suc (suc j)) e = absurd (omega arith)
-next-lows (suc n) [] j e = refl
-next-lows (suc n) (c ∷ []) zero e = absurd (omega arith)
-next-lows (suc n) (c ∷ []) (suc j) e = refl
-next-lows (suc n) (c ∷ k ∷ ws) zero e = absurd (omega arith)
-next-lows (suc n) (c ∷ k ∷ ws) (suc zero) e = absurd (omega arith)
-next-lows (suc n) (c ∷ k ∷ ws) (suc (suc j)) e = ap (λ (l : List ℕ). c ∷ k % 65536 ∷ l) (next-lows n ws j (omega arith))
-
 drop-lows : (n : ℕ) (ws : List ℕ) (j : ℕ) → j ≡ 2 * n → drop j (lows n ws) ≡ drop j ws
 unfolding lows
 drop-lows zero ws j e = refl
@@ -100,10 +84,6 @@ module _ (n : ℕ) (ws : List ℕ) where
 
   pub lows-set-steps : (v x : ℕ) → v < n → lows n (set ws (2 * v + 1) x) ≡ set (lows n ws) (2 * v + 1) (x % 65536)
   lows-set-steps v x h = odd-set n ws (2 * v + 1) v x refl h
-
-  -- One slot more left out.
-  pub lows-next : lows (n + 1) ws ≡ set (lows n ws) (2 * n + 1) (stepsAt (lows n ws) n % 65536)
-  lows-next = rw (add-one n) (next-lows n ws (2 * n + 1) refl)
 
   -- A store that changes a slot alone.
   pub lows-same : (v x : ℕ) → v < n → x % 65536 ≡ stepsAt ws v % 65536 → lows n (set ws (2 * v + 1) x) ≡ lows n ws

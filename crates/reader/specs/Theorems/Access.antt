@@ -6,14 +6,14 @@ use native.Mathlib.Omega.{arith}
 use mathlib.Core.Path.{_≡_, refl, sym, ap, ap₂, _∙_}
 use mathlib.Core.List.{List, [], _∷_, _++_, List·Memᴰ}
 use lib.ListN.{length, getD, take, drop, replicate, length-map, List·getD-map}
-use lib.Seq.{getD-take, getD-drop, drop-drop}
+use lib.Seq.{getD-drop, drop-drop}
 use Rattle.semantics.specs.Condition.{holdAtZero}
 use Rattle.semantics.specs.Automata.Proper.{Proper}
 use Rattle.semantics.specs.Automaton.{Mode, Move, timers, modeAt, moveAt, startHolds}
 use Rattle.semantics.specs.Graph.CornerGraph.{PricesWithin}
 use Rattle.semantics.specs.Corners.Lists.{mem-getD}
 use Rattle.semantics.specs.Regions.Lists.{replicate-zero}
-use Rattle.reader.specs.Fields.{mostPrice, ModeFields, MoveFields, Fields}
+use Rattle.reader.specs.Fields.{mostPrice, MoveFields, Fields}
 use Rattle.reader.specs.Meaning.{conditionsFrom, modeOf, moveOf, automaton}
 use Rattle.reader.specs.Held.{pad, held, modeFrom, moveFrom, recordsFrom, fieldsOf, automatonOf, modeFieldsAt, moveFieldsAt, IsTable}
 use Rattle.reader.specs.Theorems.Rows.{map-all}
@@ -144,9 +144,6 @@ module _ (t : List ℕ) (h : IsTable t) where
   first-at : (k : ℕ) → getD (drop k t) 0 0 ≡ getD t k 0
   first-at k = byte-at k 0 ∙ ap (λ (j : ℕ). getD t j 0) (add-zero k)
 
-  condition-at : (k a i : ℕ) → i < 6 → getD (take 6 (drop a (drop k t))) i 0 ≡ getD t (k + a + i) 0
-  condition-at k a i l = getD-take 6 (drop a (drop k t)) i 0 l ∙ ap (λ (u : List ℕ). getD u i 0) (drop-drop a k t) ∙ getD-drop (k + a) t i 0
-
   -- A mode by its number.
   module _ (m : ℕ) (k : m < length (automatonOf t .modes)) where
     mode-there : m < getD t 0 0
@@ -159,9 +156,6 @@ module _ (t : List ℕ) (h : IsTable t) where
 
     pub rate-within : modeAt (automatonOf t) m .rate ≤ mostPrice
     rate-within = amounts-within .rates _ (mem-getD (automatonOf t .modes) m _ k)
-
-    pub invariant-at : (i : ℕ) → i < 6 → getD (modeFieldsAt (fieldsOf t) m .conditions) i 0 ≡ getD t (8 + 8 * m + 2 + i) 0
-    invariant-at i l = ap (λ (o : ModeFields). getD (o .conditions) i 0) (mode-fields-at t m mode-there) ∙ condition-at (8 + 8 * m) 2 i l
 
   -- A move by its number. The modes that it names are there.
   module _ (e : ℕ) (k : e < length (automatonOf t .moves)) where
@@ -179,9 +173,6 @@ module _ (t : List ℕ) (h : IsTable t) where
         let next : 136 + 12 * e + 3 ≡ 136 + 12 * e + 2 + 1 = omega arith in
         ap (λ (o : Move). o .price) (move-at t e move-there)
         ∙ ap₂ (λ (a b : ℕ). a + 256 * b) (byte-at (136 + 12 * e) 2) (byte-at (136 + 12 * e) 3 ∙ ap (λ (j : ℕ). getD t j 0) next)
-
-    pub guard-at : (i : ℕ) → i < 6 → getD (moveFieldsAt (fieldsOf t) e .conditions) i 0 ≡ getD t (136 + 12 * e + 4 + i) 0
-    guard-at i l = ap (λ (o : MoveFields). getD (o .conditions) i 0) (move-fields-at t e move-there) ∙ condition-at (136 + 12 * e) 4 i l
 
     pub resets-at : moveFieldsAt (fieldsOf t) e .resets ≡ getD t (136 + 12 * e + 10) 0
     resets-at = ap (λ (o : MoveFields). o .resets) (move-fields-at t e move-there) ∙ byte-at (136 + 12 * e) 10

@@ -13,16 +13,9 @@ use Rattle.semantics.specs.Nodes.Node.{cellNumber, cellAt}
 use Rattle.semantics.specs.Nodes.Cells.{cellAt-length}
 use Rattle.reader.specs.Held.{automatonOf, IsTable}
 use Rattle.reader.specs.Theorems.Access.{getD-pad, getD-all}
+pub use Rattle.corners.specs.Laws.Corners.{corners-few}
 use Rattle.regions.specs.Held.{mostTimers, pad}
 use Rattle.regions.specs.Nodes.{mostCeiling, CeilingsFew, Padded}
-
--- A cell of at most three timers has 1 to 75 corners.
-pub corners-few : (n : ℕ) → n ≤ 3 → (1 ≤ cornerCount n 1) × (cornerCount n 1 ≤ 75)
-corners-few zero h = omega arith
-corners-few (suc zero) h = omega arith
-corners-few (suc (suc zero)) h = omega arith
-corners-few (suc (suc (suc zero))) h = omega arith
-corners-few (suc (suc (suc (suc n)))) h = absurd (omega arith)
 
 -- Factors behind the last ceiling are 1, and digits there are 0.
 count-zeros : (k : ℕ) → cellCount (replicate k 0) ≡ 1

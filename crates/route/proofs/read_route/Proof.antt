@@ -5,7 +5,7 @@ use mathlib.Core.Path.{subst₂}
 use Prim.Native.Nat.{ℕ}
 use lib.ListN.{length}
 use Rattle.reader.specs.Held.{automatonOf}
-use Rattle.search.specs.Near.{IsBest}
+use Rattle.near.specs.Near.{IsBest}
 use Rattle.route.proofs.Answering.{best-room, read-none, read-short, walk-ready, read-written}
 use Rattle.route.proofs.read_route.Statement.{statement}
 use Rattle.route.proofs.read_route.Tie as tie

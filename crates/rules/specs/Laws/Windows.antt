@@ -1,24 +1,27 @@
--- A region meets the conditions of a mode or move just if its timers are in the windows of its row.
+-- A region meets the conditions of a mode just if its timers are in the windows of its row; and those of a move, and after it its target's, just if
+-- they are in the windows of the move's row.
 -- Assumes nothing.
-use mathlib.Core.Path.{_≡_, refl}
-use mathlib.Core.Bool.{true}
+use mathlib.Core.Path.{_≡_, refl, sym, _∙_}
+use mathlib.Core.Bool.{Bool, true, false, cond, _&&_, true≢false}
 use mathlib.Core.Logic.{_↔_, _≢_}
 use mathlib.Core.List.{List, [], _∷_, List·Memᴰ}
 use Prim.Native.Nat.{ℕ, _+_, _≤_, _<_, max, min}
 use native.Mathlib.Decide.{ℕ-discrete, decLt}
 use native.Mathlib.Omega.{arith}
-use borrow.Author.Tests.{eq-eqb, ne-eqb}
+use borrow.Author.Tests.{eq-eqb, ne-eqb, ltb-true, lt-ltb, leb-true, le-leb}
+use lib.Dec.{leb, ltb}
 use lib.ListN.{length, getD}
 use Rattle.semantics.specs.Condition.{Condition}
 use Rattle.semantics.specs.Region.{PricedRegion, meets, meetsAll}
 use Rattle.semantics.specs.Automaton.{timers, modeAt, moveAt}
+use Rattle.semantics.specs.Run.{among}
 use Rattle.semantics.specs.Automata.Proper.{OnTimers}
 use Rattle.semantics.specs.Corners.Lists.{mem-getD}
 use Rattle.semantics.specs.Regions.Compare.{and-true-iff}
 use Rattle.semantics.specs.Regions.Windows.{half, free, lowest, above, meets-window, InWindows, AreWindows, windows-none}
 use Rattle.reader.specs.Held.{automatonOf, IsTable}
-use Rattle.reader.specs.Theorems.Access.{table-proper, timer-count, counts}
-use Rattle.rules.specs.Rules.{lowOf, highOf, InRow, IsRow, IsRules}
+use Rattle.reader.specs.Theorems.Access.{table-proper, target-below, timer-count, counts}
+use Rattle.rules.specs.Rules.{lowOf, highOf, joinedLow, joinedHigh, lowAt, highAt, InRow, targetConditions, IsRow, IsRules}
 
 -- One condition more narrows the window of its timer, and no other.
 module _ (c : Condition) (cs : List Condition) (x : ℕ) where
@@ -87,20 +90,51 @@ unspoken n (c ∷ cs) on x l =
     let rest = unspoken n cs (λ d m. on d (List·Memᴰ.List·Memᴰ·tail m)) x l in
     (rw (low-other c cs x other) (rest .0), rw (high-other c cs x other) (rest .1))
 
--- The windows of a row, for conditions that speak of three timers.
-row-window :
-    (rs : List ℕ) (row : ℕ) (cs : List Condition) → IsRow rs row cs → OnTimers 3 cs → (r : PricedRegion)
-    → ((x : ℕ) → half r x < free) → (hs : List ℕ) → ((x : ℕ) → x < 3 → getD hs x 0 ≡ half r x) → InRow rs row hs ↔ (meetsAll cs r ≡ true)
-row-window rs row cs is on r f hs stand = (λ i. windows-of cs r f .1 (λ x. all i x (decLt x 3)), λ t x l. back (windows-of cs r f .0 t) x l)
+-- Conditions that speak of three timers hold where these are in their windows.
+three-windows :
+    (cs : List Condition) → OnTimers 3 cs → (r : PricedRegion) → ((x : ℕ) → half r x < free)
+    → ((x : ℕ) → x < 3 → (lowOf cs x ≤ half r x) × (half r x < highOf cs x)) ↔ (meetsAll cs r ≡ true)
+three-windows cs on r f = (λ i. windows-of cs r f .1 (λ x. all i x (decLt x 3)), λ t x l. windows-of cs r f .0 t x)
   where
-    all : InRow rs row hs → (x : ℕ) → Dec (x < 3) → (lowOf cs x ≤ half r x) × (half r x < highOf cs x)
-    all i x (yes l) = (omega (arith, is .low x l, i x l .0, stand x l), omega (arith, is .high x l, i x l .1, stand x l))
+    all :
+        ((x : ℕ) → x < 3 → (lowOf cs x ≤ half r x) × (half r x < highOf cs x)) → (x : ℕ) → Dec (x < 3)
+        → (lowOf cs x ≤ half r x) × (half r x < highOf cs x)
+    all i x (yes l) = i x l
     all i x (no n) =
         let none = unspoken 3 cs on x (omega arith) in
         (omega (arith, none .0), omega (arith, none .1, f x))
 
-    back : InWindows (lowOf cs) (highOf cs) r → InRow rs row hs
-    back i x l = (omega (arith, is .low x l, i x .0, stand x l), omega (arith, is .high x l, i x .1, stand x l))
+-- The windows of a row of conditions.
+row-window :
+    (rs : List ℕ) (row : ℕ) (cs : List Condition) → IsRow rs row cs → OnTimers 3 cs → (r : PricedRegion)
+    → ((x : ℕ) → half r x < free) → (hs : List ℕ) → ((x : ℕ) → x < 3 → getD hs x 0 ≡ half r x) → InRow rs row hs ↔ (meetsAll cs r ≡ true)
+row-window rs row cs is on r f hs stand = (λ i. three-windows cs on r f .0 (into i), λ t x l. out (three-windows cs on r f .1 t x l) l)
+  where
+    into : InRow rs row hs → (x : ℕ) → x < 3 → (lowOf cs x ≤ half r x) × (half r x < highOf cs x)
+    into i x l = (omega (arith, is .low x l, i x l .0, stand x l), omega (arith, is .high x l, i x l .1, stand x l))
+
+    out : {x : ℕ} → (lowOf cs x ≤ half r x) × (half r x < highOf cs x) → x < 3 → (lowAt rs row x ≤ getD hs x 0) × (getD hs x 0 < highAt rs row x)
+    out {x} i l = (omega (arith, is .low x l, i .0, stand x l), omega (arith, is .high x l, i .1, stand x l))
+
+-- A place is in a window just if the tests of both ends say so.
+pub in-window : (low h high : ℕ) → ((leb low h && ltb h high) ≡ true) ↔ ((low ≤ h) × (h < high))
+in-window low h high =
+    let both = and-true-iff (leb low h) (ltb h high) in
+    (λ t. (leb-true low h (both .0 t .0), ltb-true h high (both .0 t .1)), λ w. both .1 (le-leb low h (w .0), lt-ltb h high (w .1)))
+
+-- A place is in a joined window just if it is in the move's own, and where the timer stands after the move is in the target's.
+joined-window :
+    (reset : Bool) (low high low′ high′ h : ℕ)
+    → ((joinedLow reset low low′ ≤ h) × (h < joinedHigh reset high low′ high′))
+    ↔ (((low ≤ h) × (h < high)) × ((low′ ≤ cond reset 0 h) × (cond reset 0 h < high′)))
+joined-window false low high low′ high′ h = (λ w. ((omega arith, omega arith), (omega arith, omega arith)), λ w. (omega arith, omega arith))
+joined-window true low high low′ high′ h = at (leb low′ 0 && ltb 0 high′) refl
+  where
+    at :
+        (zero : Bool) → (leb low′ 0 && ltb 0 high′) ≡ zero
+        → ((low ≤ h) × (h < cond zero high 0)) ↔ (((low ≤ h) × (h < high)) × ((low′ ≤ 0) × (0 < high′)))
+    at true e = (λ w. (w, in-window low′ 0 high′ .0 e), λ w. w .0)
+    at false e = (λ w. absurd (omega arith), λ w. absurd (true≢false (sym (in-window low′ 0 high′ .1 (w .1)) ∙ e)))
 
 module _ (t rs : List ℕ) (table : IsTable t) (rules : IsRules t rs) where
   on-three : (cs : List Condition) → OnTimers (timers (automatonOf t)) cs → OnTimers 3 cs
@@ -113,9 +147,44 @@ module _ (t rs : List ℕ) (table : IsTable t) (rules : IsRules t rs) where
       row-window rs m (modeAt (automatonOf t) m .conditions) (rules .invariants m there)
       (on-three _ (table-proper t table .invariants-on _ (mem-getD (automatonOf t .modes) m _ there))) r f hs stand
 
-  pub move-window :
-      (e : ℕ) → e < length (automatonOf t .moves) → (r : PricedRegion) → ((x : ℕ) → half r x < free) → (hs : List ℕ)
-      → ((x : ℕ) → x < 3 → getD hs x 0 ≡ half r x) → InRow rs (16 + e) hs ↔ (meetsAll (moveAt (automatonOf t) e .conditions) r ≡ true)
-  move-window e there r f hs stand =
-      row-window rs (16 + e) (moveAt (automatonOf t) e .conditions) (rules .guards e there)
-      (on-three _ (table-proper t table .guards-on _ (mem-getD (automatonOf t .moves) e _ there))) r f hs stand
+  -- The region r is where the move is made, and r′ what its resets leave of it.
+  module _ (e : ℕ) (there : e < length (automatonOf t .moves)) (r r′ : PricedRegion) (f : (x : ℕ) → half r x < free)
+      (f′ : (x : ℕ) → half r′ x < free) (after : (x : ℕ) → x < 3 → half r′ x ≡ cond (among x (moveAt (automatonOf t) e .resets)) 0 (half r x)) where
+    abbrev xs : List ℕ
+    xs = moveAt (automatonOf t) e .resets
+
+    abbrev cs : List Condition
+    cs = moveAt (automatonOf t) e .conditions
+
+    abbrev ds : List Condition
+    ds = targetConditions (automatonOf t) e
+
+    own : ((x : ℕ) → x < 3 → (lowOf cs x ≤ half r x) × (half r x < highOf cs x)) ↔ (meetsAll cs r ≡ true)
+    own = three-windows cs (on-three cs (table-proper t table .guards-on _ (mem-getD (automatonOf t .moves) e _ there))) r f
+
+    target : ((x : ℕ) → x < 3 → (lowOf ds x ≤ half r′ x) × (half r′ x < highOf ds x)) ↔ (meetsAll ds r′ ≡ true)
+    target =
+        three-windows ds
+        (on-three ds
+        (table-proper t table .invariants-on _ (mem-getD (automatonOf t .modes) (moveAt (automatonOf t) e .target) _ (target-below t table e there))))
+        r′ f′
+
+    both :
+        (x : ℕ) → x < 3 → (h : ℕ) → h ≡ half r x
+        → ((lowAt rs (16 + e) x ≤ h) × (h < highAt rs (16 + e) x))
+        ↔ (((lowOf cs x ≤ half r x) × (half r x < highOf cs x)) × ((lowOf ds x ≤ half r′ x) × (half r′ x < highOf ds x)))
+    both x l h is =
+        let row = rules .guards e there in
+        rw (row .low x l, row .high x l, is, after x l) (joined-window (among x xs) (lowOf cs x) (highOf cs x) (lowOf ds x) (highOf ds x) (half r x))
+
+    pub move-window :
+        (hs : List ℕ) → ((x : ℕ) → x < 3 → getD hs x 0 ≡ half r x)
+        → InRow rs (16 + e) hs
+        ↔ ((meetsAll (moveAt (automatonOf t) e .conditions) r ≡ true) × (meetsAll (targetConditions (automatonOf t) e) r′ ≡ true))
+    move-window hs stand = (
+      λ i. (
+        own .0 (λ x l. both x l (getD hs x 0) (stand x l) .0 (i x l) .0),
+        target .0 (λ x l. both x l (getD hs x 0) (stand x l) .0 (i x l) .1),
+      ),
+      λ met x l. both x l (getD hs x 0) (stand x l) .1 (own .1 (met .0) x l, target .1 (met .1) x l),
+    )

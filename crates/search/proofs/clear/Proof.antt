@@ -36,7 +36,7 @@ mul-end : tie.Need-mul-end
 mul-end c = let h = fits (c .before) .few in omega (arith, h)
 
 slice-relend-prefix-fill : tie.Need-slice-relend-prefix-fill
-slice-relend-prefix-fill c = fits (c .before) .room
+slice-relend-prefix-fill c = let h = fits (c .before) .room in omega (arith, h)
 
 slice-aggregate-fill : tie.Need-slice-aggregate-fill
 slice-aggregate-fill c =

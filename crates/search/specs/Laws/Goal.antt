@@ -32,14 +32,14 @@ use Rattle.reader.specs.Fields.{mostPrice}
 use Rattle.reader.specs.Held.{automatonOf, IsTable}
 use Rattle.reader.specs.Theorems.Access.{table-proper, amounts-within}
 use Rattle.regions.specs.Nodes.{mostNodes}
+use Rattle.space.specs.Space.{graphOf, startOf}
+use Rattle.space.specs.Laws.Shares.{share, share-quotient, shared-out, share-below, nodes-shared, some-modes, start-below, few-modes}
+use Rattle.near.specs.declared.Cost.{Cost as CostHeld}
+use Rattle.near.specs.Near.{costEntry, BestRoom, InMode, IsBest}
 use Rattle.search.specs.declared.Searched.{Searched}
 use Rattle.search.specs.declared.Searched.the-variants.{Nodes, Refused}
-use Rattle.search.specs.declared.near.Cost.{Cost as CostHeld}
-use Rattle.search.specs.Space.{graphOf, startOf}
-use Rattle.search.specs.Near.{costEntry, BestRoom, InMode, IsBest}
 use Rattle.search.specs.Outcome.{answered, searched, cleared}
 use Rattle.search.specs.Laws.Answers.{answer-nodes, answer-fits, searched-refused, searched-nodes, cleared-nodes}
-use Rattle.search.specs.Laws.Shares.{share, share-quotient, shared-out, share-below, nodes-shared, some-modes, start-below, few-modes}
 
 -- What is unreached has infinity as its charge.
 entry-none : (r : CostHeld) → costEntry r ≡ unreached → r .charge ≡ infinity

@@ -4,11 +4,11 @@ use native.Mathlib.Omega.{arith}
 use borrow.Author.Needs.{needs}
 use borrow.Author.Tests.{not-true, not-false}
 use denote.Ref.{now}
-use Rattle.search.specs.Space.{placeAt}
-use Rattle.search.proofs.Settings.{place-mode}
+use Rattle.space.specs.Space.{placeAt}
+use Rattle.space.proofs.Settings.{place-mode}
 use Rattle.steps.proofs.Standing.{stand-setting}
 use Rattle.steps.proofs.Trying.{one-before, one-silent, one-found}
-use Rattle.search.proofs.Delayed.{delay-ready, delayed-valid, delayed-ready}
+use Rattle.space.proofs.Delayed.{delay-ready, delayed-valid, delayed-ready}
 use Rattle.steps.proofs.Delaying.{delay-out, halves-asked, delay-shut, led-asked, tried-delay}
 use Rattle.steps.proofs.by_delay.Statement.{statement}
 use Rattle.steps.proofs.by_delay.Tie as tie

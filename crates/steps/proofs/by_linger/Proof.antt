@@ -4,7 +4,7 @@ use native.Mathlib.Omega.{arith}
 use borrow.Author.Needs.{needs}
 use Rattle.steps.proofs.Standing.{corners-ready}
 use Rattle.steps.proofs.Trying.{one-before, one-silent, one-found}
-use Rattle.search.proofs.Delayed.{delay-ready, delayed-valid, delayed-fewer}
+use Rattle.space.proofs.Delayed.{delay-ready, delayed-valid, delayed-fewer}
 use Rattle.steps.proofs.LeadingWaits.{linger-idle, linger-ready, linger-tried}
 use Rattle.steps.proofs.by_linger.Statement.{statement}
 use Rattle.steps.proofs.by_linger.Tie as tie

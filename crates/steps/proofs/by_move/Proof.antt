@@ -4,20 +4,23 @@ use Prim.Native.Nat.{_-_}
 use native.Mathlib.Omega.{arith}
 use borrow.Author.Needs.{needs}
 use denote.Ref.{now}
-use Rattle.search.specs.Moves.{OpenMove}
-use Rattle.search.specs.Space.{placeAt}
-use Rattle.search.proofs.Settings.{place-half-room}
-use Rattle.search.proofs.MovesFrom.{next-rises, next-ready, open-after}
+use Rattle.space.specs.Moves.{NextFrom, OpenMove}
+use Rattle.space.specs.Space.{placeAt}
+use Rattle.space.proofs.Settings.{place-half-room}
+use Rattle.space.proofs.MovesFrom.{next-rises, next-ready, open-after}
+use Rattle.steps.specs.Images.{Images}
+use Rattle.steps.proofs.Imaged.{images-none}
 use Rattle.steps.proofs.Trying.{tried-none}
-use Rattle.steps.proofs.PassedMoves.{SilentTo, open-allowed, silent-first, silent-next, move-found, moves-none}
+use Rattle.steps.proofs.PassedMoves.{SilentTo, image-ready, along-ready, silent-first, silent-next, move-found, moves-none}
 use Rattle.steps.proofs.by_move.Statement.{statement}
 use Rattle.steps.proofs.by_move.Tie as tie
 
 abbrev Inv-loop : tie.InvT-loop
-Inv-loop words space table rules at stand halves e₀ e = OpenMove table rules halves (at .mode) e × SilentTo table space stand words e
+Inv-loop words space table rules at stand halves images₀ e₀ images e =
+    OpenMove table rules halves (at .mode) e × SilentTo table space stand words e × Images space at images
 
 abbrev μ-loop : tie.MeasureT-loop
-μ-loop words space table rules at stand halves e₀ e = 64 - e
+μ-loop words space table rules at stand halves images₀ e₀ images e = 64 - e
 
 nowhere-requires : tie.Need-nowhere-requires Inv-loop μ-loop
 nowhere-requires c κs = search needs
@@ -35,55 +38,89 @@ move-from-requires : tie.Need-move-from-requires Inv-loop μ-loop
 move-from-requires c κs =
     let s = c .before .before .before .before .before in
     let w = s .pre .0 in
-    (w .ready .setting .is-table, s .pre .1, w .here .corner .place .in-modes, omega (arith, c .before .before .if1 .left))
+    (now (s .args .table), (w .ready .setting .is-table, s .pre .1, w .here .corner .place .in-modes, omega (arith, c .before .before .if1 .left)))
 
 loop-holds : tie.Need-loop-holds Inv-loop μ-loop
 loop-holds c =
     let s = c .before .before .before .before .before .before in
-    (c .move-from .ensures .move, silent-first (s .pre .0) (s .pre .1) (c .before .halves .ensures) (c .move-from .ensures))
+    let w = s .pre .0 in
+    let first =
+    c .move-from .ensures (now (s .args .table))
+    (w .ready .setting .is-table, s .pre .1, w .here .corner .place .in-modes, omega (arith, c .before .before .before .if1 .left)) in
+    (first .move, silent-first (s .pre .0) (s .pre .1) (c .before .halves .ensures) first, images-none _ _)
+
+-- In a turn: what was known at the start.
+abbrev stood : tie.In-loop Inv-loop μ-loop → tie.After-halves Inv-loop μ-loop
+stood c = c .before .before .before
+
+abbrev start : tie.In-loop Inv-loop μ-loop → tie.Start Inv-loop μ-loop
+start c = stood c .before .before .before .before .before
+
+resets-requires : tie.Need-resets-requires Inv-loop μ-loop
+resets-requires c κs =
+    let l = c .before in
+    (start l .pre .0 .ready .setting .is-table, l .before .loop .inv .0 .there (l .loop-test .taken))
+
+image-requires : tie.Need-image-requires Inv-loop μ-loop
+image-requires c κs =
+    let l = c .before .before in
+    let s = start l in
+    let inv = l .before .loop .inv in
+    (image-ready (s .pre .0) (s .pre .1) (stood l .halves .ensures) (inv .0) (l .loop-test .taken) (c .resets .ensures), inv .2)
 
 along-move-requires : tie.Need-along-move-requires Inv-loop μ-loop
 along-move-requires c κs =
-    let h = c .before .before .before in
-    let s = h .before .before .before .before .before in
-    (s .pre .0, open-allowed (s .pre .0) (s .pre .1) (h .halves .ensures) (c .before .loop .inv .0) (c .loop-test .taken))
+    let l = c .before .before .before in
+    let s = start l in
+    along-ready (s .pre .0) (s .pre .1) (stood l .halves .ensures) (l .before .loop .inv .0) (l .loop-test .taken) (c .before .resets .ensures)
+    (c .image .ensures .is)
 
 returns-2 : tie.Need-returns-2 Inv-loop μ-loop
 returns-2 c =
-    let l = c .before .before .before in
+    let l = c .before .before .before .before .before .before in
     move-found (l .before .loop .inv .1) (l .loop-test .taken) (c .before .before .along-move .ensures) (c .if2 .taken)
 
 after-requires : tie.Need-after-requires Inv-loop μ-loop
 after-requires c κs =
-    let l = c .before .before .before in
-    let s = l .before .before .before .before .before .before .before .before in
-    (s .pre .1 .size, l .loop-test .taken)
+    let l = c .before .before .before .before .before .before in
+    (start l .pre .1 .size, l .loop-test .taken)
+
+-- The next move.
+abbrev turned : tie.After-after Inv-loop μ-loop → tie.In-loop Inv-loop μ-loop
+turned c = c .before .before .before .before .before .before .before
+
+ready :
+    (c : tie.After-after Inv-loop μ-loop)
+    → NextFrom (now (start (turned c) .args .table)) (now (start (turned c) .args .rules)) (c .after .result)
+ready c =
+    let l = turned c in
+    next-ready (start l .pre .1) (l .before .loop .inv .0 .there (l .loop-test .taken)) (c .after .ensures)
 
 next-move-requires : tie.Need-next-move-requires Inv-loop μ-loop
-next-move-requires c κs =
-    let l = c .before .before .before .before in
-    let h = l .before .before .before in
-    let s = h .before .before .before .before .before in
-    next-ready (s .pre .1) (l .before .loop .inv .0 .there (l .loop-test .taken)) (c .after .ensures) (s .pre .0 .ready .setting .is-table) (h .halves .result)
+next-move-requires c κs = (_, ready c)
+
+-- In a turn whose move leads nowhere.
+abbrev tried : tie.After-next-move Inv-loop μ-loop → tie.After-along-move Inv-loop μ-loop
+tried c = c .before .before .before .before
 
 loop-less : tie.Need-loop-less Inv-loop μ-loop
 loop-less c =
-    let l = c .before .before .before .before .before in
-    let s = l .before .before .before .before .before .before .before .before in
+    let l = tried c .before .before .before .before in
     let there = l .before .loop .inv .0 .there (l .loop-test .taken) in
-    omega (arith, l .loop-test .taken, next-rises (s .pre .1) there (c .before .after .ensures), c .next-move .ensures .low)
+    omega (arith, l .loop-test .taken, next-rises (start l .pre .1) there (c .before .after .ensures), c .next-move .ensures _ (ready (c .before)) .low)
 
 loop-again : tie.Need-loop-again Inv-loop μ-loop
 loop-again c =
-    let l = c .before .before .before .before .before in
-    let h = l .before .before .before in
-    let s = h .before .before .before .before .before in
-    let move = l .before .loop .inv .0 in
+    let l = tried c .before .before .before .before in
+    let s = start l in
+    let inv = l .before .loop .inv in
+    let move = inv .0 in
     let o =
-    open-after (s .pre .1) (move .there (l .loop-test .taken)) (c .before .after .ensures) (move .source (l .loop-test .taken)) (c .next-move .ensures) in (
+    open-after (s .pre .1) (move .there (l .loop-test .taken)) (c .before .after .ensures) (move .source (l .loop-test .taken))
+    (c .next-move .ensures _ (ready (c .before))) in (
       o .move,
-      silent-next (s .pre .0) (s .pre .1) (h .halves .ensures) (l .before .loop .inv .1) (c .before .before .before .before .along-move .ensures)
-          (c .before .before .if2 .left) o,
+      silent-next (s .pre .0) (s .pre .1) (stood l .halves .ensures) (inv .1) (tried c .along-move .ensures) (c .before .before .if2 .left) o,
+      tried c .before .image .ensures .images,
     )
 
 nowhere-requires-2 : tie.Need-nowhere-requires-2 Inv-loop μ-loop
@@ -103,6 +140,8 @@ by-move-spec =
     halves-requires
     move-from-requires
     loop-holds
+    resets-requires
+    image-requires
     along-move-requires
     returns-2
     after-requires

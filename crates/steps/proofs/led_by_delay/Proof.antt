@@ -6,7 +6,7 @@ use borrow.Author.Needs.{needs}
 use lib.Dec.{ltb}
 use Rattle.regions.specs.Held.{view}
 use Rattle.steps.specs.Leading.{IsLed}
-use Rattle.search.proofs.Settings.{padded-at, top-below}
+use Rattle.space.proofs.Settings.{padded-at, top-below}
 use Rattle.steps.proofs.Leads.{DelaysBelow, delays-none, delays-more, delays-all, weight-small}
 use Rattle.steps.proofs.led_by_delay.Statement.{statement}
 use Rattle.steps.proofs.led_by_delay.Tie as tie

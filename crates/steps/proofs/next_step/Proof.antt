@@ -1,6 +1,6 @@
 -- `steps::next_step` meets its contract.
 -- Assumes nothing.
-use Rattle.search.specs.Laws.NodeRegion.{region-ready}
+use Rattle.space.specs.Laws.NodeRegion.{region-ready}
 use Rattle.steps.proofs.Standing.{standing}
 use Rattle.steps.proofs.Trying.{next-move, next-delay, next-linger}
 use Rattle.steps.proofs.next_step.Statement.{statement}

@@ -3,8 +3,8 @@
 use mathlib.Core.Path.{refl}
 use Prim.Native.Nat.{_-_, _≤_}
 use native.Mathlib.Omega.{arith}
-use Rattle.cases.specs.Kept.{OnChain}
-use Rattle.cases.proofs.Steps.{fewer-steps}
+use Rattle.region_cases.specs.Kept.{OnChain}
+use Rattle.region_cases.proofs.Steps.{fewer-steps}
 use Rattle.cases.proofs.chains.follow.Statement.{statement}
 use Rattle.cases.proofs.chains.follow.Tie as tie
 

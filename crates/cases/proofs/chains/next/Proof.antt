@@ -3,7 +3,7 @@
 use mathlib.Core.Path.{refl}
 use Prim.Native.Nat.{_-_}
 use native.Mathlib.Omega.{arith}
-use Rattle.cases.proofs.Steps.{fewer-steps}
+use Rattle.region_cases.proofs.Steps.{fewer-steps}
 use Rattle.cases.proofs.chains.next.Statement.{statement}
 use Rattle.cases.proofs.chains.next.Tie as tie
 

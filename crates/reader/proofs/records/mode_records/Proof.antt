@@ -21,11 +21,20 @@ abbrev μ-loop : tie.MeasureT-loop
 loop-holds : tie.Need-loop-holds Inv-loop μ-loop
 loop-holds c = let a = c .before .args in gathered-none (λ i. modeRecord (a .timers)) 0 (a .modes) (a .bytes .now) (a .from) (wrote-none _ _)
 
-mul-mode-record : tie.Need-mul-mode-record Inv-loop μ-loop
-mul-mode-record c = omega arith
+cast-at : tie.Need-cast-at Inv-loop μ-loop
+cast-at c = omega arith
 
-add-mode-record : tie.Need-add-mode-record Inv-loop μ-loop
-add-mode-record c = omega arith
+cast-at-2 : tie.Need-cast-at-2 Inv-loop μ-loop
+cast-at-2 c = omega arith
+
+mul-at : tie.Need-mul-at Inv-loop μ-loop
+mul-at c = omega arith
+
+cast-at-3 : tie.Need-cast-at-3 Inv-loop μ-loop
+cast-at-3 c = omega arith
+
+add-at : tie.Need-add-at Inv-loop μ-loop
+add-at c = omega arith
 
 mode-record-requires : tie.Need-mode-record-requires Inv-loop μ-loop
 mode-record-requires c κs = omega arith
@@ -65,8 +74,11 @@ mode-records-spec =
     Inv-loop
     μ-loop
     loop-holds
-    mul-mode-record
-    add-mode-record
+    cast-at
+    cast-at-2
+    mul-at
+    cast-at-3
+    add-at
     mode-record-requires
     returns
     add-i

@@ -21,11 +21,20 @@ abbrev μ-loop : tie.MeasureT-loop
 loop-holds : tie.Need-loop-holds Inv-loop μ-loop
 loop-holds c = let a = c .before .args in gathered-none (λ i. moveRecord (a .modes) (a .timers)) 0 (a .moves) (a .bytes .now) (a .from) (wrote-none _ _)
 
-mul-move-record : tie.Need-mul-move-record Inv-loop μ-loop
-mul-move-record c = omega arith
+cast-at : tie.Need-cast-at Inv-loop μ-loop
+cast-at c = omega arith
 
-add-move-record : tie.Need-add-move-record Inv-loop μ-loop
-add-move-record c = omega arith
+cast-at-2 : tie.Need-cast-at-2 Inv-loop μ-loop
+cast-at-2 c = omega arith
+
+mul-at : tie.Need-mul-at Inv-loop μ-loop
+mul-at c = omega arith
+
+cast-at-3 : tie.Need-cast-at-3 Inv-loop μ-loop
+cast-at-3 c = omega arith
+
+add-at : tie.Need-add-at Inv-loop μ-loop
+add-at c = omega arith
 
 move-record-requires : tie.Need-move-record-requires Inv-loop μ-loop
 move-record-requires c κs = omega arith
@@ -65,8 +74,11 @@ move-records-spec =
     Inv-loop
     μ-loop
     loop-holds
-    mul-move-record
-    add-move-record
+    cast-at
+    cast-at-2
+    mul-at
+    cast-at-3
+    add-at
     move-record-requires
     returns
     add-i

@@ -7,7 +7,7 @@ use borrow.Author.Needs.{needs}
 use lib.ListN.{getD}
 use Rattle.regions.specs.Held.{view}
 use Rattle.regions.specs.Laws.Fields.{holds, timers-is, group-few}
-use Rattle.regions.proofs.Rules.{number-is}
+use Rattle.regions.proofs.Numbers.{number-is}
 use Rattle.regions.proofs.Region.corner.Statement.{statement}
 use Rattle.regions.proofs.Region.corner.Tie as tie
 

@@ -1,6 +1,5 @@
 -- `route::walk::mode_of` meets its contract.
 -- Assumes nothing.
-use Prim.Native.Nat.{_/_, _≤_}
 use native.Mathlib.Nat.{div-le-self}
 use native.Mathlib.Omega.{arith}
 use borrow.Author.Needs.{needs}

@@ -6,7 +6,7 @@ use Prim.Native.Nat.{_/_}
 use native.Mathlib.Omega.{arith}
 use lib.ListN.{length}
 use Rattle.reader.specs.Held.{automatonOf}
-use Rattle.search.specs.Laws.Shares.{block-within}
+use Rattle.space.specs.Laws.Shares.{block-within}
 use Rattle.route.specs.Walk.{WalkReady}
 use Rattle.route.proofs.Live.{turns}
 use Rattle.route.proofs.Trailing.{Walking}
@@ -68,9 +68,6 @@ next-step-requires c κs =
 
 cast-depth : tie.Need-cast-depth Inv-loop μ-loop
 cast-depth c = omega arith
-
-cast-route : tie.Need-cast-route Inv-loop μ-loop
-cast-route c = omega arith
 
 slice-write-route : tie.Need-slice-write-route Inv-loop μ-loop
 slice-write-route c =
@@ -192,7 +189,7 @@ walk-spec =
     mode-of-requires
     next-step-requires
     cast-depth
-    cast-route
+    (λ c. omega arith)
     slice-write-route
     advance-requires
     loop-less

@@ -1,7 +1,7 @@
 -- `rules::rows::fill` meets its contract. The loop's invariant: the rows of the first i records are filled. Assumes nothing.
 use mathlib.Core.Path.{_≡_, _∙_, ap}
 use mathlib.Core.List.{List}
-use Prim.Native.Nat.{ℕ, _-_, _≤_}
+use Prim.Native.Nat.{ℕ, _+_, _*_, _-_, _≤_}
 use borrow.Author.Needs.{needs}
 use native.Mathlib.Omega.{arith}
 use denote.Ref.{now}
@@ -20,17 +20,30 @@ abbrev μ-loop : tie.MeasureT-loop
 loop-holds : tie.Need-loop-holds Inv-loop μ-loop
 loop-holds c = (omega arith, filled-none _ _ _ _ _)
 
+-- The record of a turn is within the table.
+inside : (c : tie.In-loop Inv-loop μ-loop) → c .before .before .args .at + c .before .before .args .stride * c .before .loop .i + 6 ≤ 904
+inside c = c .before .before .pre .4 (c .before .loop .i) (c .loop-test .taken)
+
+cast-record : tie.Need-cast-record Inv-loop μ-loop
+cast-record c = omega arith
+
+cast-record-2 : tie.Need-cast-record-2 Inv-loop μ-loop
+cast-record-2 c = omega arith
+
+mul-record : tie.Need-mul-record Inv-loop μ-loop
+mul-record c = omega (arith, inside c)
+
+cast-record-3 : tie.Need-cast-record-3 Inv-loop μ-loop
+cast-record-3 c = omega (arith, inside c)
+
+add-record : tie.Need-add-record Inv-loop μ-loop
+add-record c = omega (arith, inside c)
+
 add-put : tie.Need-add-put Inv-loop μ-loop
 add-put c = omega arith
 
-mul-conditions : tie.Need-mul-conditions Inv-loop μ-loop
-mul-conditions c = let turn = c .before .before in omega (arith, turn .before .pre .3 (turn .loop .i) (c .before .loop-test .taken))
-
-add-conditions : tie.Need-add-conditions Inv-loop μ-loop
-add-conditions c = let turn = c .before .before in omega (arith, turn .before .pre .3 (turn .loop .i) (c .before .loop-test .taken))
-
 conditions-requires : tie.Need-conditions-requires Inv-loop μ-loop
-conditions-requires c κs = let turn = c .before .before in (turn .before .pre .0, turn .before .pre .3 (turn .loop .i) (c .before .loop-test .taken))
+conditions-requires c κs = (c .before .before .before .pre .0, inside (c .before))
 
 windows-requires : tie.Need-windows-requires Inv-loop μ-loop
 windows-requires c κs = search needs
@@ -64,9 +77,12 @@ fill-spec =
     Inv-loop
     μ-loop
     loop-holds
+    cast-record
+    cast-record-2
+    mul-record
+    cast-record-3
+    add-record
     add-put
-    mul-conditions
-    add-conditions
     conditions-requires
     windows-requires
     put-requires

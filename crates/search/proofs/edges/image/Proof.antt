@@ -5,8 +5,8 @@ use Prim.Native.Nat.{_%_}
 use native.Mathlib.Omega.{arith}
 use borrow.Author.Needs.{needs}
 use lib.ListN.{getD}
-use Rattle.search.specs.Images.{ImageDone}
-use Rattle.search.proofs.Imaging.{image-few, image-kept, image-stored}
+use Rattle.space.specs.Images.{ImageDone}
+use Rattle.space.proofs.Imaging.{image-few, image-kept, image-stored}
 use Rattle.search.proofs.edges.image.Statement.{statement}
 use Rattle.search.proofs.edges.image.Tie as tie
 

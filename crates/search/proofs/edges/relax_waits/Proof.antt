@@ -6,20 +6,20 @@ use native.Mathlib.Omega.{arith}
 use borrow.Author.Needs.{needs}
 use borrow.Author.Tests.{not-true, not-false}
 use denote.Ref.{now}
-use Rattle.search.specs.Space.{placeAt}
+use Rattle.space.specs.Space.{placeAt}
+use Rattle.space.proofs.Settings.{place-mode}
+use Rattle.space.proofs.Delayed.{delay-ready, delayed-valid, delayed-within, delayed-ready, halves-ready}
 use Rattle.search.proofs.edges.relax_waits.Statement.{statement}
 use Rattle.search.proofs.edges.relax_waits.Tie as tie
-use Rattle.search.proofs.Settings.{place-mode}
-use Rattle.search.proofs.Delayed.{delay-ready, delayed-valid, delayed-within, delayed-ready, halves-ready}
 use Rattle.search.proofs.Waits.{Looked, Stands, waits-ready, waits-outside, waits-unmet, delays-ready, waits-done}
 
 abbrev start-of : tie.After-relax-linger-arg → tie.Start
-start-of c = c .before .before .before .before .before .before .before .before
+start-of c = c .before .before .before .before .before .before .before .before .before
 
 -- What was found before linger,
 looked :
     (c : tie.After-relax-linger-arg)
-    → Looked (now (start-of c .args .table)) (start-of c .args .at) (c .before .before .before .delay .result) (c .before .before .top .result)
+    → Looked (now (start-of c .args .table)) (start-of c .args .from .at) (c .before .before .before .delay .result) (c .before .before .top .result)
     (c .before .top2 .result) (c .before .before .before .before .rate .result)
 looked c = record {
   is = c .before .before .before .delay .ensures;
@@ -43,24 +43,24 @@ cast-rate c = search needs
 
 delay-requires : tie.Need-delay-requires
 delay-requires c κs =
-    let s = c .before .before .before .before in
-    delay-ready (s .pre .setting) (s .pre .corner)
+    let s = c .before .before .before .before .before in
+    delay-ready (s .pre .0 .setting) (s .pre .0 .corner)
 
 top-requires : tie.Need-top-requires
 top-requires c κs =
-    let s = c .before .before .before .before .before in
-    delayed-valid (s .pre .setting) (s .pre .corner) (c .delay .result) (c .delay .ensures)
+    let s = c .before .before .before .before .before .before in
+    delayed-valid (s .pre .0 .setting) (s .pre .0 .corner) (c .delay .result) (c .delay .ensures)
 
 top-requires-2 : tie.Need-top-requires-2
 top-requires-2 c κs = search needs
 
 relax-linger-requires : tie.Need-relax-linger-requires
-relax-linger-requires c κs = waits-ready (start-of c .pre) (looked c)
+relax-linger-requires c κs = waits-ready (start-of c .pre .0) (start-of c .pre .1) (looked c)
 
 within-requires : tie.Need-within-requires
 within-requires c κs =
     let arg = c .before .before .before in
-    delayed-valid (start-of arg .pre .setting) (start-of arg .pre .corner) _ (looked arg .is)
+    delayed-valid (start-of arg .pre .0 .setting) (start-of arg .pre .0 .corner) _ (looked arg .is)
 
 same-length : tie.Need-same-length
 same-length c = search needs
@@ -68,21 +68,21 @@ same-length c = search needs
 returns : tie.Need-returns
 returns c =
     let arg = c .before .before .before .before .before in
-    waits-outside (start-of arg .pre) (looked arg) (c .before .before .before .before .relax-linger .ensures)
+    waits-outside (start-of arg .pre .0) (start-of arg .pre .1) (looked arg) (c .before .before .before .before .relax-linger .ensures)
     (sym (c .before .within .ensures) ∙ not-true _ (c .if1 .taken))
 
 halves-requires : tie.Need-halves-requires
 halves-requires c κs =
     let arg = c .before .before .before .before .before in
     let s = start-of arg in
-    halves-ready (s .pre .setting) (s .pre .corner) _ (looked arg .is)
-    (sym (delayed-within (s .pre .setting) (s .pre .corner) _ (looked arg .is)) ∙ sym (c .before .within .ensures) ∙ not-false _ (c .if1 .left))
+    halves-ready (s .pre .0 .setting) (s .pre .0 .corner) _ (looked arg .is)
+    (sym (delayed-within (s .pre .0 .setting) (s .pre .0 .corner) _ (looked arg .is)) ∙ sym (c .before .within .ensures) ∙ not-false _ (c .if1 .left))
 
 all-inside-requires : tie.Need-all-inside-requires
 all-inside-requires c κs =
     let s = start-of (arg-of c) in
-    let few = place-mode (now (s .args .table)) (s .pre .setting .is-table) (placeAt (s .args .at)) (s .pre .corner .place) in
-    (s .pre .setting .is-rules .size, omega (arith, few))
+    let few = place-mode (now (s .args .table)) (s .pre .0 .setting .is-table) (placeAt (s .args .from .at)) (s .pre .0 .corner .place) in
+    (s .pre .0 .setting .is-rules .size, omega (arith, few))
 
 same-length-2 : tie.Need-same-length-2
 same-length-2 c = search needs
@@ -90,19 +90,19 @@ same-length-2 c = search needs
 returns-2 : tie.Need-returns-2
 returns-2 c =
     let h = c .before .before in
-    waits-unmet (start-of (arg-of h) .pre) (looked (arg-of h)) (h .before .before .before .before .before .relax-linger .ensures) (stands h)
+    waits-unmet (start-of (arg-of h) .pre .0) (start-of (arg-of h) .pre .1) (looked (arg-of h)) (h .before .before .before .before .before .relax-linger .ensures) (stands h)
     (λ met. true≢false (sym (c .before .all-inside .ensures .1 met) ∙ not-true _ (c .if2 .taken)))
 
 node-of-requires : tie.Need-node-of-requires
 node-of-requires c κs =
     let arg = arg-of (c .before .before) in
-    delayed-ready (start-of arg .pre .setting) (start-of arg .pre .corner) _ (looked arg .is)
+    delayed-ready (start-of arg .pre .0 .setting) (start-of arg .pre .0 .corner) _ (looked arg .is)
 
 relax-delay-requires : tie.Need-relax-delay-requires
 relax-delay-requires c κs =
     let all = c .before .before .before in
     let h = all .before in
-    delays-ready (start-of (arg-of h) .pre) (looked (arg-of h)) (h .before .before .before .before .before .relax-linger .ensures) (stands h)
+    delays-ready (start-of (arg-of h) .pre .0) (start-of (arg-of h) .pre .1) (looked (arg-of h)) (h .before .before .before .before .before .relax-linger .ensures) (stands h)
     (all .all-inside .ensures .0 (not-false _ (c .before .before .if2 .left))) (c .before .node-of .result) (c .before .node-of .ensures)
 
 same-length-3 : tie.Need-same-length-3
@@ -113,7 +113,7 @@ returns-3 c =
     let node = c .before .before .before .before in
     let all = node .before .before in
     let h = all .before in
-    waits-done (start-of (arg-of h) .pre) (looked (arg-of h)) (h .before .before .before .before .before .relax-linger .ensures) (stands h)
+    waits-done (start-of (arg-of h) .pre .0) (start-of (arg-of h) .pre .1) (looked (arg-of h)) (h .before .before .before .before .before .relax-linger .ensures) (stands h)
     (all .all-inside .ensures .0 (not-false _ (node .before .if2 .left))) (node .node-of .result) (node .node-of .ensures)
     (c .before .before .relax-delay .ensures)
 

@@ -3,8 +3,8 @@
 -- Assumes nothing.
 use mathlib.Core.Path.{refl}
 use native.Mathlib.Omega.{arith}
-use Rattle.search.specs.Laws.NodeRegion.{region-ready, corner-at}
-use Rattle.search.proofs.Settling.{turnsLeft, Turn, turn-starts, turn-none, AtNode, node-room, turn-goal, settle-ready, waits-ready, moves-ready, next-room, turn-next, turn-less}
+use Rattle.space.specs.Laws.NodeRegion.{region-ready, corner-at}
+use Rattle.search.proofs.Settling.{turnsLeft, Turn, turn-starts, turn-none, AtNode, node-room, turn-goal, edges-ready, settle-ready, next-room, turn-next, turn-less}
 use Rattle.search.proofs.settle.settle_all.Statement.{statement}
 use Rattle.search.proofs.settle.settle_all.Tie as tie
 
@@ -32,15 +32,15 @@ module _ (c : tie.After-region-at Inv-loop μ-loop) where
     corner = corner-at (start .pre .setting) (c .before .if1 .taken) (c .region-at .result) (c .region-at .ensures);
   }
 
--- That call, from the calls of a turn.
-abbrev region : tie.After-settle Inv-loop μ-loop → tie.After-region-at Inv-loop μ-loop
-region c = c .before .before .before .before
+-- That call, from the test of the goal; and that test, from the calls of a turn.
+abbrev region : tie.After-struct-known2 Inv-loop μ-loop → tie.After-region-at Inv-loop μ-loop
+region c = c .before .before .before .before .before
 
-abbrev settled : tie.After-relax-waits Inv-loop μ-loop → tie.After-settle Inv-loop μ-loop
-settled c = c .before .before .before .before
+abbrev tested : tie.After-relax-edges Inv-loop μ-loop → tie.Else2 Inv-loop μ-loop
+tested c = c .before .before
 
-abbrev waited : tie.After-relax-moves Inv-loop μ-loop → tie.After-relax-waits Inv-loop μ-loop
-waited c = c .before .before .before .before
+abbrev relaxed : tie.After-settle Inv-loop μ-loop → tie.After-relax-edges Inv-loop μ-loop
+relaxed c = c .before .before .before .before
 
 first-requires : tie.Need-first-requires Inv-loop μ-loop
 first-requires c κs = let s = c .before .before .before in omega (arith, s .pre .between .queue .words)
@@ -52,56 +52,62 @@ region-at-requires : tie.Need-region-at-requires Inv-loop μ-loop
 region-at-requires c κs = region-ready (c .before .before .before .before .before .before .before .pre .setting) (c .if1 .taken)
 
 charge-of-requires : tie.Need-charge-of-requires Inv-loop μ-loop
-charge-of-requires c κs = node-room (at-node (c .before .before .before))
+charge-of-requires c κs = node-room (at-node (c .before))
 
 steps-of-requires : tie.Need-steps-of-requires Inv-loop μ-loop
-steps-of-requires c κs = node-room (at-node (c .before .before .before .before .before))
+steps-of-requires c κs = node-room (at-node (c .before .before .before))
 
 same-length : tie.Need-same-length Inv-loop μ-loop
-same-length c = head (c .before .before .before .before .before .before) .loop .inv .kept
+same-length c = head (region (c .before)) .loop .inv .kept
 
 returns : tie.Need-returns Inv-loop μ-loop
 returns c =
-    let charged = c .before .before in
-    let goal = charged .before .before in
-    turn-goal (at-node (goal .before .before)) (goal .if2 .taken) _ (charged .charge-of .ensures) (c .steps-of .ensures)
+    let steps = c .before .before in
+    turn-goal (at-node (region (c .before))) (steps .before .before .charge-of .ensures) (steps .steps-of .ensures) (c .if2 .taken)
+
+add-t19 : tie.Need-add-t19 Inv-loop μ-loop
+add-t19 c = omega (arith, c .before .before .steps-of .ensures)
+
+relax-edges-requires : tie.Need-relax-edges-requires Inv-loop μ-loop
+relax-edges-requires c κs =
+    let z = c .before in
+    let steps = z .before .before in
+    edges-ready (at-node (region (z .before))) (steps .before .before .charge-of .ensures) (steps .steps-of .ensures) (z .if2 .left)
 
 settle-requires : tie.Need-settle-requires Inv-loop μ-loop
-settle-requires c κs = settle-ready (at-node (c .before .before .before))
-
-relax-waits-requires : tie.Need-relax-waits-requires Inv-loop μ-loop
-relax-waits-requires c κs =
-    let z = c .before .before .before in
-    waits-ready (at-node (region z)) (z .before .before .if2 .left) (z .settle .ensures)
-
-relax-moves-requires : tie.Need-relax-moves-requires Inv-loop μ-loop
-relax-moves-requires c κs =
-    let w = c .before .before .before in
-    let z = settled w in
-    moves-ready (at-node (region z)) (z .before .before .if2 .left) (z .settle .ensures) (w .relax-waits .ensures)
+settle-requires c κs =
+    let r = c .before .before .before in
+    let z = tested r in
+    let steps = z .before .before in
+    settle-ready (at-node (region (z .before))) (steps .before .before .charge-of .ensures) (steps .steps-of .ensures) (z .if2 .left)
+    (r .relax-edges .ensures)
 
 first-requires-2 : tie.Need-first-requires-2 Inv-loop μ-loop
 first-requires-2 c κs =
-    let m = c .before .before .before in
-    let w = waited m in
-    let z = settled w in
-    next-room (at-node (region z)) (z .before .before .if2 .left) (z .settle .ensures) (w .relax-waits .ensures) (m .relax-moves .ensures)
+    let d = c .before .before .before in
+    let r = relaxed d in
+    let z = tested r in
+    let steps = z .before .before in
+    next-room (at-node (region (z .before))) (steps .before .before .charge-of .ensures) (steps .steps-of .ensures) (z .if2 .left)
+    (r .relax-edges .ensures) (d .settle .ensures)
 
 loop-less : tie.Need-loop-less Inv-loop μ-loop
 loop-less c =
-    let m = c .before .before .before .before in
-    let w = waited m in
-    let z = settled w in
-    turn-less (at-node (region z)) (z .before .before .if2 .left) (z .settle .ensures) (w .relax-waits .ensures) (m .relax-moves .ensures)
-    (c .first2 .result) (c .first2 .ensures)
+    let d = c .before .before .before .before in
+    let r = relaxed d in
+    let z = tested r in
+    let steps = z .before .before in
+    turn-less (at-node (region (z .before))) (steps .before .before .charge-of .ensures) (steps .steps-of .ensures) (z .if2 .left)
+    (r .relax-edges .ensures) (d .settle .ensures) (c .first2 .result) (c .first2 .ensures)
 
 loop-again : tie.Need-loop-again Inv-loop μ-loop
 loop-again c =
-    let m = c .before .before .before .before in
-    let w = waited m in
-    let z = settled w in
-    turn-next (at-node (region z)) (z .before .before .if2 .left) (z .settle .ensures) (w .relax-waits .ensures) (m .relax-moves .ensures)
-    (c .first2 .result) (c .first2 .ensures)
+    let d = c .before .before .before .before in
+    let r = relaxed d in
+    let z = tested r in
+    let steps = z .before .before in
+    turn-next (at-node (region (z .before))) (steps .before .before .charge-of .ensures) (steps .steps-of .ensures) (z .if2 .left)
+    (r .relax-edges .ensures) (d .settle .ensures) (c .first2 .result) (c .first2 .ensures)
 
 same-length-2 : tie.Need-same-length-2 Inv-loop μ-loop
 same-length-2 c = c .before .before .loop .inv .kept
@@ -122,9 +128,9 @@ settle-all-spec =
     steps-of-requires
     same-length
     returns
+    add-t19
+    relax-edges-requires
     settle-requires
-    relax-waits-requires
-    relax-moves-requires
     first-requires-2
     loop-less
     loop-again

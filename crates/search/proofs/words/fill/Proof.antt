@@ -31,7 +31,7 @@ filled-all x [] = refl
 filled-all x (y ∷ ys) = ap {B = List ℕ} (λ r. x ∷ r) (filled-all x ys)
 
 abbrev Inv-loop : tie.InvT-loop
-Inv-loop words₀ x n i₀ words i = (i ≤ n) × (n ≡ length words₀) × (words ≡ filled i x words₀) × (length words ≡ length words₀)
+Inv-loop words₀ x n i₀ words i = (words ≡ filled i x words₀) × (i ≤ n) × (n ≡ length words₀) × (length words ≡ length words₀)
 
 abbrev μ-loop : tie.MeasureT-loop
 μ-loop words₀ x n i₀ words i = n - i
@@ -54,9 +54,9 @@ loop-less c = omega arith
 loop-again : tie.Need-loop-again Inv-loop μ-loop
 loop-again c =
     let start = c .before .before in (
+      rw (c .before .loop .inv .0) (filled-more (c .before .loop .i) (start .args .x) (now (start .args .words)) (omega arith)),
       omega arith,
       omega arith,
-      rw (c .before .loop .inv .2) (filled-more (c .before .loop .i) (start .args .x) (now (start .args .words)) (omega arith)),
       search needs,
     )
 
@@ -67,7 +67,7 @@ returns : tie.Need-returns Inv-loop μ-loop
 returns c =
     let words = now (c .before .before .args .words) in
     let e : c .before .loop .i ≡ length words = omega arith in
-    rw e at (c .before .loop .inv .2) ∙ filled-all (c .before .before .args .x) words
+    rw e at (c .before .loop .inv .0) ∙ filled-all (c .before .before .args .x) words
 
 pub fill-spec : {M : Type 1} → statement M
 fill-spec =

@@ -1,0 +1,4 @@
+-- The laws that the functions' proofs cite.
+pub mod Turns
+pub mod Entries
+pub mod Codes

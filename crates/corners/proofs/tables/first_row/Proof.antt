@@ -1,0 +1,73 @@
+-- `corners::tables::first_row` meets its contract: each row by a test that is computed.
+-- Assumes nothing.
+use mathlib.Core.Path.{refl}
+use Rattle.semantics.specs.Corners.Corner.{cornerNumber}
+use Rattle.corners.specs.Tables.{firstAt}
+use Rattle.corners.proofs.Rules.{rowTest, row-is, last-row}
+use Rattle.corners.proofs.tables.first_row.Statement.{statement}
+use Rattle.corners.proofs.tables.first_row.Tie as tie
+
+returns : tie.Need-returns
+unfolding rowTest cornerNumber
+returns c = row-is firstAt (c .match .keys1) refl
+
+returns-2 : tie.Need-returns-2
+unfolding rowTest cornerNumber
+returns-2 c = row-is firstAt (c .match .keys2) refl
+
+returns-3 : tie.Need-returns-3
+unfolding rowTest cornerNumber
+returns-3 c = row-is firstAt (c .match .keys3) refl
+
+returns-4 : tie.Need-returns-4
+unfolding rowTest cornerNumber
+returns-4 c = row-is firstAt (c .match .keys4) refl
+
+returns-5 : tie.Need-returns-5
+unfolding rowTest cornerNumber
+returns-5 c = row-is firstAt (c .match .keys5) refl
+
+returns-6 : tie.Need-returns-6
+unfolding rowTest cornerNumber
+returns-6 c = row-is firstAt (c .match .keys6) refl
+
+returns-7 : tie.Need-returns-7
+unfolding rowTest cornerNumber
+returns-7 c = row-is firstAt (c .match .keys7) refl
+
+returns-8 : tie.Need-returns-8
+unfolding rowTest cornerNumber
+returns-8 c = row-is firstAt (c .match .keys8) refl
+
+returns-9 : tie.Need-returns-9
+unfolding rowTest cornerNumber
+returns-9 c = row-is firstAt (c .match .keys9) refl
+
+returns-10 : tie.Need-returns-10
+unfolding rowTest cornerNumber
+returns-10 c = row-is firstAt (c .match .keys10) refl
+
+returns-11 : tie.Need-returns-11
+unfolding rowTest cornerNumber
+returns-11 c = row-is firstAt (c .match .keys11) refl
+
+returns-12 : tie.Need-returns-12
+unfolding rowTest cornerNumber
+returns-12 c = row-is firstAt (last-row (c .before .args .row) 11 (c .before .pre) (c .match .rest)) refl
+
+pub first-row-spec : {M : Type 1} → statement M
+first-row-spec =
+    tie.close
+    (tie.spec
+    returns
+    returns-2
+    returns-3
+    returns-4
+    returns-5
+    returns-6
+    returns-7
+    returns-8
+    returns-9
+    returns-10
+    returns-11
+    returns-12)

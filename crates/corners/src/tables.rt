@@ -1,0 +1,119 @@
+// The constant tables of the corners of a cell. Two of them give a row of eight entries by a `match`, which the compiler keeps in read-only
+// memory; a constant array it writes anew onto the stack at each use.
+ghost use mathlib.Core.Path.{_≡_};
+ghost use Prim.Native.Nat.{_<_, _≤_, max};
+ghost use Rattle.semantics.specs.NodeCount.{cornerCount};
+ghost use Rattle.semantics.specs.Corners.Corner.{cornerAt};
+ghost use Rattle.reader.specs.Fields.{mostTimers};
+ghost use Rattle.corners.specs.Held.{packCorner};
+ghost use Rattle.corners.specs.Tables.{mostCellCorners, entryOf, IsRow, firstAt, cornerByte};
+use reader::MOST_TIMERS;
+
+// A corner of a cell: the groups of its region, 0 past the last timer, the index of its price, and the number of the highest group.
+pub struct CornerAt {
+    pub group: [u8; MOST_TIMERS],
+    pub index: usize,
+    pub top: u8,
+}
+
+// How many corners a cell has, by the number of timers.
+const CORNERS: [u8; 4] = [1, 3, 13, 75];
+
+// Where the corners begin in their table, by the number of timers.
+const FIRST_PLACES: [u8; 4] = [0, 0, 8, 24];
+
+// "The corners of a cell number 3, 13 or 75 for one, two or three timers."
+pub fn corner_count(timers: usize) -> u32
+    requires { ⌜ timers ≤ mostTimers ⌝ }
+    ensures { λ r. ⌜ (r ≡ cornerCount timers 1) × (1 ≤ r) × (r ≤ mostCellCorners) ⌝ }
+{
+    wide(CORNERS[timers])
+}
+
+fn wide(byte: u8) -> u32
+    ensures { λ r. ⌜ r ≡ byte ⌝ }
+{
+    byte as u32
+}
+
+// The number of a region's first corner, by the place of its groups.
+pub fn first_corner(place: usize) -> u8
+    requires { ⌜ place < 96 ⌝ }
+    ensures { λ r. ⌜ r ≡ firstAt place ⌝ }
+{
+    entry(first_row(place / 8), place % 8)
+}
+
+// The corner with a number.
+pub fn corner_at(timers: usize, number: usize) -> CornerAt
+    requires { ⌜ (1 ≤ timers) × (timers ≤ mostTimers) × (number < cornerCount timers 1) ⌝ }
+    ensures { λ r. ⌜ r ≡ packCorner (cornerAt timers number) ⌝ }
+{
+    let place = FIRST_PLACES[timers] as usize + number;
+    let byte = entry(corner_row(place / 8), place % 8);
+    let a = byte / 16 % 4;
+    let b = byte / 4 % 4;
+    let c = byte % 4;
+    CornerAt {
+        group: [a, b, c],
+        index: (byte / 64) as usize,
+        top: greatest(a, greatest(b, c)),
+    }
+}
+
+fn greatest(a: u8, b: u8) -> u8
+    ensures { λ r. ⌜ r ≡ max a b ⌝ }
+{
+    if a < b { b } else { a }
+}
+
+// An entry of a row; the first one stands in the lowest byte.
+fn entry(row: u64, column: usize) -> u8
+    requires { ⌜ column < 8 ⌝ }
+    ensures { λ r. ⌜ r ≡ entryOf row column ⌝ }
+{
+    ((row >> (8 * column)) % 256) as u8
+}
+
+// The numbers of the regions' first corners.
+fn first_row(row: usize) -> u64
+    requires { ⌜ row < 12 ⌝ }
+    ensures { λ r. ⌜ IsRow firstAt row r ⌝ }
+{
+    match row {
+        0 => 0x0101_0101_0000_0000,
+        1 => 0x0303_0303_0303_0303,
+        2 => 0x0D07_0503_0D0D_0100,
+        3 => 0x0D0D_0D0D_0D0D_0A0D,
+        4 => 0x4B19_1403_4B4B_1200,
+        5 => 0x4B4B_4B4B_4B4B_1C4B,
+        6 => 0x4B39_1F07_4B16_0105,
+        7 => 0x4B47_4B4B_433C_240F,
+        8 => 0x3F21_270C_4B4B_094B,
+        9 => 0x4B4B_354B_4B4B_2A4B,
+        10 => 0x4B2D_4B4B_4B4B_4B4B,
+        _ => 0x4B4B_4B4B_4B4B_314B,
+    }
+}
+
+// The corners by their numbers.
+fn corner_row(row: usize) -> u64
+    requires { ⌜ row < 13 ⌝ }
+    ensures { λ r. ⌜ IsRow cornerByte row r ⌝ }
+{
+    match row {
+        0 => 0x0000_0000_0050_1000,
+        1 => 0x1854_1450_1044_0400,
+        2 => 0x0000_00A4_6424_9858,
+        3 => 0x1141_0150_1045_0500,
+        4 => 0x2192_5212_8646_0651,
+        5 => 0x4909_5414_4404_A161,
+        6 => 0x15A4_6424_9858_1889,
+        7 => 0x16A5_6525_9A5A_1A55,
+        8 => 0x9B5B_1BA6_6626_9656,
+        9 => 0xB676_36E7_A767_27DB,
+        10 => 0x1EA9_6929_9959_19F6,
+        11 => 0x39ED_AD6D_2DDE_9E5E,
+        _ => 0x0000_0000_00F9_B979,
+    }
+}

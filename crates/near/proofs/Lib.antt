@@ -1,0 +1,2 @@
+-- What the proof of `best` rests on.
+pub mod Nearest

@@ -1,0 +1,2 @@
+-- What the contract of `best` cites.
+pub mod Near

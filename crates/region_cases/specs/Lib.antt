@@ -1,0 +1,2 @@
+-- What operations and steps keep.
+pub mod Kept

@@ -1,9 +1,0 @@
--- What the array helpers do, where the definitions have no name for it.
--- Assumes nothing.
-use mathlib.Core.List.{List, _++_, map}
-use Prim.Native.Nat.{ℕ}
-use lib.ListN.{take, drop}
-
--- f at each of the first n entries.
-abbrev pub mapTo : (ℕ → ℕ) → ℕ → List ℕ → List ℕ
-mapTo f n l = map f (take n l) ++ drop n l

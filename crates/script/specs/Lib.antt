@@ -1,0 +1,2 @@
+-- What was read of a line.
+pub mod Line

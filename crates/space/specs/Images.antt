@@ -1,0 +1,50 @@
+-- To which node the resets of a byte lead from a corner.
+-- Assumes nothing.
+use mathlib.Core.Path.{_≡_}
+use mathlib.Core.Logic.{_⊎_}
+use mathlib.Core.List.{List}
+use Prim.Native.Nat.{ℕ, _≤_, _<_}
+use lib.ListN.{length, getD, take}
+use Rattle.semantics.specs.Region.{resetAll}
+use Rattle.semantics.specs.Nodes.Node.{nodeOf, nodeNumber}
+use Rattle.semantics.specs.Corners.Edges.{resetAllCorner}
+use Rattle.reader.specs.Meaning.{namedTimers}
+use Rattle.reader.specs.Held.{automatonOf, fieldsOf, moveFieldsAt}
+use Rattle.regions.specs.declared.nodes.NodeRegion.{NodeRegion}
+use Rattle.regions.specs.Held.{view}
+use Rattle.space.specs.declared.Space.{Space}
+use Rattle.space.specs.Space.{Setting, IsCorner}
+
+-- Place r is the last of the places 0 to `last` of the list at which stands at most the bound.
+pub record LastAtMost (l : List ℕ) (last bound r : ℕ) : Type 0 where
+  pub within : r ≤ last
+  pub at-most : getD l r 0 ≤ bound
+  pub above : (i : ℕ) → r < i → i ≤ last → bound < getD l i 0
+
+-- The number that this node has in mode 0.
+unfoldable pub imageOf : Space → NodeRegion → ℕ → ℕ
+imageOf s z byte =
+    nodeNumber (take (z .region .timers) (s .ceilings))
+    (nodeOf 0 (resetAll (namedTimers byte) (view (z .region))) (resetAllCorner (namedTimers byte) (view (z .region)) (z .index)))
+
+-- The byte is that of a move of the table.
+pub record ImageReady (s : Space) (z : NodeRegion) (byte : ℕ) : Type 0 where
+  pub table : List ℕ
+  pub rules : List ℕ
+  pub setting : Setting table rules s
+  pub corner : IsCorner table z
+  pub move : ℕ
+  pub there : move < length (automatonOf table .moves)
+  pub byte-is : byte ≡ moveFieldsAt (fieldsOf table) move .resets
+
+-- For each byte below 8 the image, if it was found.
+abbrev pub noImage : ℕ
+noImage = 4294967295
+
+pub record Images (s : Space) (z : NodeRegion) (found : List ℕ) : Type 0 where
+  pub sized : length found ≡ 8
+  pub each : (k : ℕ) → k < 8 → (getD found k 0 ≡ noImage) ⊎ (getD found k 0 ≡ imageOf s z k)
+
+pub record ImageDone (s : Space) (z : NodeRegion) (byte : ℕ) (found : List ℕ) (r : ℕ) : Type 0 where
+  pub is : r ≡ imageOf s z byte
+  pub images : Images s z found

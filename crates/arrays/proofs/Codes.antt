@@ -5,7 +5,7 @@ use Prim.Native.Nat.{ℕ, zero, suc, _<_, _≤_}
 use native.Mathlib.Numerals.{sub-one}
 use native.Mathlib.Omega.{arith}
 use Rattle.semantics.specs.Condition.{less, greater}
-use Rattle.reader.specs.Meaning.{comparisonOf}
+use Rattle.table.specs.Meaning.{comparisonOf}
 
 -- Code 1, and 0 as well, which no table has.
 pub code-less : (code : ℕ) → code < 2 → comparisonOf code ≡ less

@@ -3,7 +3,7 @@
 use mathlib.Core.List.{List, _++_, map}
 use Prim.Native.Nat.{ℕ, suc}
 use lib.ListN.{take, drop}
-use Rattle.reader.specs.Fields.{mostTimers}
+use Rattle.table.specs.Fields.{mostTimers}
 
 -- "one to four corner prices with three timers".
 abbrev pub mostCorners : ℕ

@@ -3,7 +3,7 @@ ghost use mathlib.Core.Path.{_≡_};
 ghost use Prim.Native.Nat.{_+_, _<_};
 ghost use lib.Dec.{leb, ltb};
 ghost use Rattle.semantics.specs.Region.{high, meetsAt};
-ghost use Rattle.reader.specs.Meaning.{comparisonOf};
+ghost use Rattle.table.specs.Meaning.{comparisonOf};
 
 // By the code of a condition byte.
 pub fn meets_at(code: u8, v: u8, w: u8, g: u8) -> bool

@@ -8,9 +8,9 @@ ghost use lib.Dec.{eqb};
 ghost use lib.ListN.{getD, take, drop};
 ghost use Rattle.semantics.specs.Region.{count, risen, merge};
 ghost use Rattle.semantics.specs.Regions.Renumber.{wrapped, lowered};
-ghost use Rattle.reader.specs.Fields.{mostTimers};
+ghost use Rattle.table.specs.Fields.{mostTimers};
 ghost use Rattle.arrays.specs.Arrays.{mostCorners, mapTo};
-use reader::MOST_TIMERS;
+use table::MOST_TIMERS;
 
 pub mod compare;
 

@@ -1,10 +1,8 @@
 // `chain STEP STEP ..: TABLE`: the places of a chain, and what the words of a search say of each.
 ghost use Prim.Native.Nat.{_-_, _<_, _≤_};
-ghost use Rattle.reader.specs.Held.{IsTable};
+ghost use Rattle.table.specs.Held.{IsTable};
 ghost use Rattle.region_cases.specs.Kept.{OnChain};
 use crate::searches;
-use reader::table;
-use reader::table::TABLE;
 use region_cases::places;
 use region_cases::places::Place;
 use region_cases::scripts;
@@ -14,6 +12,7 @@ use script::print;
 use script::tokens;
 use script::tokens::TOKENS;
 use search::Searched;
+use table::TABLE;
 
 const WORDS: usize = 6000;
 

@@ -4,15 +4,15 @@ mod plans;
 mod readings;
 mod searches;
 
-ghost use Rattle.reader.specs.Held.{IsTable};
+ghost use Rattle.table.specs.Held.{IsTable};
 use libc::STDIN_FILENO;
 use reader::Verdict;
-use reader::table::TABLE;
 use region_cases::corners;
 use region_cases::scripts;
 use script::print;
 use script::tokens;
 use script::tokens::TOKENS;
+use table::TABLE;
 
 // Of a script the first 65,536 bytes are run.
 fn main() {

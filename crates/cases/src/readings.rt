@@ -1,10 +1,9 @@
 // `read: TABLE`: the counts, the goal and E of the table that the reader takes the bytes for.
-ghost use Rattle.reader.specs.Held.{IsTable};
-use reader::table;
-use reader::table::TABLE;
+ghost use Rattle.table.specs.Held.{IsTable};
 use regions::nodes;
 use regions::nodes::Nodes;
 use script::print;
+use table::TABLE;
 
 pub fn read(table: &[u8; TABLE])
     requires { ⌜ IsTable (now table) ⌝ }

@@ -1,10 +1,9 @@
 // `search WORDS: TABLE`: the words that a search leaves, and the words after clearing. The words lent hold 7 before.
-ghost use Rattle.reader.specs.Held.{IsTable};
-use reader::table;
-use reader::table::TABLE;
+ghost use Rattle.table.specs.Held.{IsTable};
 use rules::RULES;
 use script::print;
 use search::Searched;
+use table::TABLE;
 
 const MOST_WORDS: usize = 6000;
 

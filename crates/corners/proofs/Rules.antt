@@ -16,7 +16,7 @@ use Rattle.semantics.specs.Corners.Lists.{length-countFrom, getD-countFrom}
 use Rattle.semantics.specs.Corners.Every.{every, every-mem, everyFrom, every-at}
 use Rattle.semantics.specs.Corners.Number.{sameList-eq, cornerAt-listed}
 use Rattle.semantics.specs.Graph.CornerGraph.{highest}
-use Rattle.reader.specs.Held.{pad}
+use Rattle.table.specs.Held.{pad}
 use Rattle.corners.specs.declared.tables.CornerAt.{CornerAt}
 use Rattle.corners.specs.Held.{packCorner}
 use Rattle.corners.specs.Tables.{entryOf, IsRow, byteOf, cornerByte}

@@ -5,7 +5,7 @@ use mathlib.Core.List.{List}
 use Prim.Native.Nat.{ℕ, _≤_}
 use lib.ListN.{getD}
 use Rattle.semantics.specs.NodeCount.{factor}
-pub use Rattle.reader.specs.Fields.{mostCeiling}
+pub use Rattle.table.specs.Fields.{mostCeiling}
 
 -- No ceiling of the array is above the greatest.
 abbrev pub CeilingsFew : List ℕ → Type 0

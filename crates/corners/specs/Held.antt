@@ -2,8 +2,8 @@
 -- Assumes nothing.
 use Rattle.semantics.specs.Corners.Corner.{Corner}
 use Rattle.semantics.specs.Graph.CornerGraph.{highest}
-use Rattle.reader.specs.Fields.{mostTimers}
-use Rattle.reader.specs.Held.{pad}
+use Rattle.table.specs.Fields.{mostTimers}
+use Rattle.table.specs.Held.{pad}
 use Rattle.corners.specs.declared.tables.CornerAt.{CornerAt}
 
 -- The struct that holds a corner.

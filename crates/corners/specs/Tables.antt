@@ -8,7 +8,7 @@ use Prim.Native.Nat.{ℕ, suc, _+_, _-_, _*_, _/_, _%_, _^_, _<_, min}
 use lib.Dec.{ltb}
 use lib.ListN.{getD, take}
 use Rattle.semantics.specs.Corners.Corner.{Corner, cornerNumber, cornerAt}
-use Rattle.reader.specs.Fields.{mostTimers}
+use Rattle.table.specs.Fields.{mostTimers}
 
 -- No cell has more corners: those of three timers.
 abbrev pub mostCellCorners : ℕ

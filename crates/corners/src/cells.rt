@@ -4,7 +4,7 @@ ghost use Prim.Native.Nat.{_+_, _*_, _%_, _≤_};
 ghost use Rattle.semantics.specs.NodeCount.{cellCount};
 ghost use Rattle.semantics.specs.Nodes.Node.{cellNumber, cellAt};
 ghost use Rattle.corners.specs.Cells.{mostCeiling, mostCells, mostCellNumber, CeilingsFew, IsFactor};
-use reader::MOST_TIMERS;
+use table::MOST_TIMERS;
 
 // How many whole parts a timer may have.
 fn factor(ceiling: u8) -> u32

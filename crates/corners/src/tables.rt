@@ -4,10 +4,10 @@ ghost use mathlib.Core.Path.{_≡_};
 ghost use Prim.Native.Nat.{_<_, _≤_, max};
 ghost use Rattle.semantics.specs.NodeCount.{cornerCount};
 ghost use Rattle.semantics.specs.Corners.Corner.{cornerAt};
-ghost use Rattle.reader.specs.Fields.{mostTimers};
+ghost use Rattle.table.specs.Fields.{mostTimers};
 ghost use Rattle.corners.specs.Held.{packCorner};
 ghost use Rattle.corners.specs.Tables.{mostCellCorners, entryOf, IsRow, firstAt, cornerByte};
-use reader::MOST_TIMERS;
+use table::MOST_TIMERS;
 
 // A corner of a cell: the groups of its region, 0 past the last timer, the index of its price, and the number of the highest group.
 pub struct CornerAt {

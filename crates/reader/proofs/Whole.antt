@@ -11,19 +11,21 @@ use lib.Seq.{sets, sets-eq, take-append-seam, drop-append-add, drop-append-le, d
 use Rattle.semantics.specs.Condition.{holdAtZero}
 use Rattle.semantics.specs.Automaton.{startHolds}
 use Rattle.reader.specs.Parser.{inOrder, took, run}
-use Rattle.reader.specs.Fields.{ModeFields, MoveFields, Fields}
+use Rattle.table.specs.Fields.{ModeFields, MoveFields, Fields}
 use Rattle.reader.specs.Format.{within, modeRecord, moveRecord, Header, header, table}
-use Rattle.reader.specs.Meaning.{conditionsFrom, automaton}
+use Rattle.table.specs.Meaning.{conditionsFrom, automaton}
 use Rattle.reader.specs.Read.{read}
-use Rattle.reader.specs.Held.{pad, flat, modeBytes, moveBytes, held, Reading}
+use Rattle.table.specs.Held.{pad, flat, modeBytes, moveBytes, held}
+use Rattle.reader.specs.Reading.{Reading}
 use Rattle.reader.specs.Step.{Gives, refuses, gives, Wrote, Writes, HeaderWrote, WritesHeader, headerBytes, Contains, Judges, rejects, accepts}
 use Rattle.reader.specs.declared.records.Next.{Next}
 use Rattle.reader.specs.declared.Verdict.the-variants.{Accepted, Refused}
 use Rattle.reader.specs.Theorems.Exactly.{taken}
 use Rattle.reader.specs.Theorems.Accepts.{table-exactly}
 use Rattle.reader.specs.Theorems.Running.{order-length}
-use Rattle.reader.specs.Theorems.Holding.{length-pad, Shaped, layout-shaped, held-length, fields-shaped}
-use Rattle.reader.specs.Theorems.Access.{start-at}
+use Rattle.table.specs.Theorems.Holding.{length-pad, Shaped, held-length, fields-shaped}
+use Rattle.reader.specs.Theorems.Accepted.{layout-shaped}
+use Rattle.table.specs.Theorems.Access.{start-at}
 use Rattle.reader.proofs.Giving.{part-taken, part-refused, part-last}
 
 abbrev zeros : ℕ → List ℕ

@@ -8,7 +8,7 @@ use mathlib.Core.Path.{_≡_, refl, sym, ap, ap₂, _∙_}
 use mathlib.Core.List.{List, [], _∷_, _++_, map, append-assoc, append-nil}
 use lib.ListN.{length, length-append, set}
 use lib.Seq.{sets}
-use Rattle.reader.specs.Held.{flat}
+use Rattle.table.specs.Held.{flat}
 use Rattle.reader.specs.Step.{Wrote}
 
 sets-append : (xs ys t : List ℕ) (at : ℕ) → sets t at (xs ++ ys) ≡ sets (sets t at xs) (at + length xs) ys

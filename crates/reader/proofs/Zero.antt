@@ -11,7 +11,7 @@ use borrow.Author.Tests.{eq-eqb, ne-eqb, lt-ltb, le-ltb, le-leb, lt-leb}
 use lib.Dec.{eqb, ltb}
 use lib.ListN.{length, getD, take, List·getD-eq-default}
 use Rattle.semantics.specs.Condition.{greater, compares, holdAtZero}
-use Rattle.reader.specs.Meaning.{comparisons, comparisonOf, conditionsFrom}
+use Rattle.table.specs.Meaning.{comparisons, comparisonOf, conditionsFrom}
 
 -- A condition byte, or 0 for none, holds at 0.
 abbrev pub zeroTest : ℕ → Bool

@@ -5,7 +5,8 @@ use mathlib.Core.Bool.{Bool, true, false, cond, _&&_}
 use mathlib.Core.List.{List}
 use lib.Dec.{leb, ltb, eqb}
 use Rattle.reader.specs.Parser.{Parser, done, refuse, byte, _>>=_, inOrder}
-use Rattle.reader.specs.Fields.{ModeFields, MoveFields, Fields}
+use Rattle.table.specs.Fields.{ModeFields, MoveFields, Fields}
+use Rattle.table.specs.Meaning.{stands}
 
 -- A byte from low to high; any other is refused by the number.
 unfoldable pub within : ℕ → ℕ → ℕ → Parser ℕ
@@ -14,10 +15,6 @@ within number low high = byte (λ b. cond (leb low b && leb b high) (done b) (re
 -- Any byte.
 abbrev pub anyByte : Parser ℕ
 anyByte = byte done
-
--- Bit i of a byte stands.
-abbrev pub stands : ℕ → ℕ → Bool
-stands b i = eqb (b / 2 ^ i % 2) 1
 
 -- "only the fields whose bit stands": a field whose bit does not stand takes no byte and is 0.
 abbrev pub ifStands : Bool → Parser ℕ → Parser ℕ

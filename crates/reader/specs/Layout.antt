@@ -5,8 +5,8 @@ use mathlib.Core.Path.{_≡_}
 use mathlib.Core.Bool.{Bool, true, false}
 use mathlib.Core.List.{List, [], _∷_, _++_, List·Memᴰ}
 use lib.ListN.{length}
-use Rattle.reader.specs.Fields.{ModeFields, MoveFields, Fields}
-use Rattle.reader.specs.Format.{stands}
+use Rattle.table.specs.Fields.{ModeFields, MoveFields, Fields}
+use Rattle.table.specs.Meaning.{stands}
 
 -- "only the fields whose bit stands": one good byte, or no byte and 0.
 pub data Optional (Good : ℕ → Type 0) : Bool → List ℕ → ℕ → Type 0 where

@@ -5,9 +5,9 @@ use mathlib.Core.Bool.{cond}
 use mathlib.Core.List.{List, [], _∷_}
 use Rattle.semantics.specs.Automaton.{startHolds}
 use Rattle.reader.specs.Parser.{Outcome, refused, took, run}
-use Rattle.reader.specs.Fields.{Fields}
+use Rattle.table.specs.Fields.{Fields}
 use Rattle.reader.specs.Format.{table}
-use Rattle.reader.specs.Meaning.{automaton}
+use Rattle.table.specs.Meaning.{automaton}
 
 pub data Judgement : Type 0 where
   accepted : Fields → Judgement

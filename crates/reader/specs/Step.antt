@@ -6,10 +6,11 @@ use mathlib.Core.List.{List, [], _∷_, _++_}
 use lib.ListN.{length, drop, set}
 use lib.Seq.{sets}
 use Rattle.reader.specs.Parser.{Parser, done, _>>=_, Outcome, refused, took, run}
-use Rattle.reader.specs.Fields.{ModeFields, Fields}
-use Rattle.reader.specs.Format.{within, ifStands, stands, amount, conditions, Header, header, table}
+use Rattle.table.specs.Fields.{ModeFields, Fields}
+use Rattle.table.specs.Meaning.{stands}
+use Rattle.reader.specs.Format.{within, ifStands, amount, conditions, Header, header, table}
 use Rattle.reader.specs.Read.{accepted, rejected, read}
-use Rattle.reader.specs.Held.{held}
+use Rattle.table.specs.Held.{held}
 use Rattle.reader.specs.declared.fields.Field.{Field}
 use Rattle.reader.specs.declared.records.Next.{Next}
 

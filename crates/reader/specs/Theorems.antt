@@ -9,6 +9,5 @@ pub mod Rows
 pub mod Limits
 pub mod Longer
 pub mod Proper
-pub mod Holding
-pub mod Access
+pub mod Accepted
 pub mod Starred

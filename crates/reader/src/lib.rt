@@ -2,17 +2,13 @@
 ghost use mathlib.Core.Path.{_≡_};
 ghost use lib.ListN.{replicate};
 ghost use Rattle.reader.specs.Read.{read};
-ghost use Rattle.reader.specs.Held.{Reading};
+ghost use Rattle.reader.specs.Reading.{Reading};
 ghost use Rattle.reader.specs.Step.{Judges};
-use crate::table::TABLE;
+use table::TABLE;
 
 mod fields;
 mod records;
 mod start;
-pub mod table;
-
-// "timers n, 1 to 3".
-pub const MOST_TIMERS: usize = 3;
 
 // Conditions of a mode or a move: two for each of three timers.
 pub const CONDITIONS: usize = 6;

@@ -4,11 +4,11 @@ ghost use mathlib.Core.List.{_∷_, []};
 ghost use Prim.Native.Nat.{_≤_};
 ghost use lib.ListN.{length, take, drop};
 ghost use Rattle.semantics.specs.Condition.{holdAtZero};
-ghost use Rattle.reader.specs.Meaning.{conditionsFrom};
+ghost use Rattle.table.specs.Meaning.{conditionsFrom};
 use crate::CONDITIONS;
-use crate::table::INVARIANT;
-use crate::table::MODE_RECORDS;
-use crate::table::TABLE;
+use table::INVARIANT;
+use table::MODE_RECORDS;
+use table::TABLE;
 
 // Whether a condition byte, or 0 for none, holds of a timer at 0.
 fn holds_at_zero(condition: u8) -> bool

@@ -7,8 +7,8 @@ use native.Mathlib.Omega.{arith}
 use lib.ListN.{length, getD, take, replicate}
 use lib.Seq.{length-take-le}
 use Rattle.semantics.specs.Region.{PricedRegion}
-use Rattle.reader.specs.Held.{automatonOf, IsTable}
-use Rattle.reader.specs.Theorems.Access.{counts, mode-count, move-count}
+use Rattle.table.specs.Held.{automatonOf, IsTable}
+use Rattle.table.specs.Theorems.Access.{counts, mode-count, move-count}
 use Rattle.regions.specs.declared.Region.{Region}
 use Rattle.regions.specs.Held.{mostTimers, pad, view, Valid, PriceRoom}
 use Rattle.regions.specs.Nodes.{mostModes, CeilingsFew, Padded}

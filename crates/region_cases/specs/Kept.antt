@@ -5,7 +5,7 @@ use mathlib.Core.List.{List}
 use Prim.Native.Nat.{ℕ, _+_, _*_, _<_}
 use lib.ListN.{length}
 use Rattle.semantics.specs.Automaton.{timers}
-use Rattle.reader.specs.Held.{automatonOf, IsTable}
+use Rattle.table.specs.Held.{automatonOf, IsTable}
 use Rattle.regions.specs.declared.Region.{Region}
 use Rattle.regions.specs.Held.{view, Valid, PriceRoom}
 

@@ -1,12 +1,11 @@
 // Where a chain stands, and its steps.
 ghost use Prim.Native.Nat.{ℕ, _+_, _<_, _≤_};
-ghost use Rattle.reader.specs.Held.{IsTable};
+ghost use Rattle.table.specs.Held.{IsTable};
 ghost use Rattle.regions.specs.Held.{mostTimers, Valid};
 ghost use Rattle.region_cases.specs.Kept.{Kept, OnChain, Leads};
 use crate::operations;
-use reader::table;
-use reader::table::TABLE;
 use regions::Region;
+use table::TABLE;
 
 // A mode and a priced region; and whether the step to it is allowed.
 pub struct Place {

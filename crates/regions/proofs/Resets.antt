@@ -9,7 +9,7 @@ use borrow.Author.Tests.{eq-eqb, ne-eqb}
 use lib.Dec.{eqb}
 use lib.ListN.{drop}
 use Rattle.semantics.specs.Region.{PricedRegion, reset, resetAll}
-use Rattle.reader.specs.Meaning.{named, namedTimers}
+use Rattle.table.specs.Meaning.{named, namedTimers}
 use Rattle.regions.specs.declared.Region.{Region}
 use Rattle.regions.specs.Held.{mostTimers, pack, view, Valid}
 use Rattle.regions.specs.Laws.Chain.{reset-gives}

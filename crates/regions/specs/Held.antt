@@ -5,8 +5,8 @@ use Prim.Native.Nat.{ℕ, suc, _+_, _≤_, _<_, _^_}
 use lib.ListN.{length, getD, take}
 use Rattle.semantics.specs.Region.{PricedRegion, WellFormed, top}
 pub use Rattle.semantics.specs.Graph.CornerGraph.{highest}
-pub use Rattle.reader.specs.Fields.{mostTimers}
-pub use Rattle.reader.specs.Held.{pad}
+pub use Rattle.table.specs.Fields.{mostTimers}
+pub use Rattle.table.specs.Held.{pad}
 pub use Rattle.arrays.specs.Arrays.{mostCorners}
 use Rattle.regions.specs.declared.Region.{Region}
 

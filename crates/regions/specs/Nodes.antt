@@ -9,7 +9,7 @@ use lib.ListN.{take}
 use Rattle.semantics.specs.Region.{PricedRegion}
 use Rattle.semantics.specs.Answer.{countFrom}
 use Rattle.semantics.specs.Nodes.Node.{Node, nodeOf, nodeNumber}
-pub use Rattle.reader.specs.Fields.{mostModes, mostCeiling}
+pub use Rattle.table.specs.Fields.{mostModes, mostCeiling}
 pub use Rattle.corners.specs.Cells.{mostCells, mostCellNumber, CeilingsFew}
 use Rattle.corners.specs.Held.{packCorner}
 use Rattle.regions.specs.declared.nodes.Nodes.{Nodes}

@@ -8,7 +8,7 @@ ghost use Rattle.semantics.specs.Region.{top, noZero, alone, start, leave, arri
 ghost use Rattle.semantics.specs.Regions.Windows.{half};
 ghost use Rattle.semantics.specs.NodeCount.{cornerCount};
 ghost use Rattle.semantics.specs.Corners.Corner.{cornerOf, cornerNumber};
-ghost use Rattle.reader.specs.Meaning.{namedTimers, conditionOf};
+ghost use Rattle.table.specs.Meaning.{namedTimers, conditionOf};
 ghost use Rattle.regions.specs.Held.{mostTimers, mostCorners, pad, pack, view, Valid, PriceRoom, WholeRoom, HalfRoom};
 use arrays::compare;
 use corners::tables;
@@ -26,7 +26,7 @@ pub struct Region {
 }
 
 impl Region {
-    pub const MOST_TIMERS: usize = reader::MOST_TIMERS;
+    pub const MOST_TIMERS: usize = table::MOST_TIMERS;
 
     pub const MOST_CORNERS: usize = arrays::MOST_CORNERS;
 

@@ -6,7 +6,7 @@ ghost use lib.Dec.{leb};
 ghost use lib.ListN.{take};
 ghost use Rattle.semantics.specs.NodeCount.{cellCount, nodeCount};
 ghost use Rattle.semantics.specs.Nodes.Node.{nodeOf, nodeNumber, nodeAt};
-ghost use Rattle.reader.specs.Held.{automatonOf, IsTable};
+ghost use Rattle.table.specs.Held.{automatonOf, IsTable};
 ghost use Rattle.regions.specs.Held.{mostTimers, view, Valid};
 ghost use Rattle.regions.specs.Nodes.{mostModes, mostCells, mostNodes, CeilingsFew, Padded, bounded, packNode, packNodeRegion};
 use crate::Region;
@@ -15,8 +15,7 @@ use corners::cells::cell_number;
 use corners::cells::cells;
 use corners::tables;
 use corners::tables::CornerAt;
-use reader::table;
-use reader::table::TABLE;
+use table::TABLE;
 
 // "E may be at most 65,536."
 pub const MOST_NODES: usize = 65536;

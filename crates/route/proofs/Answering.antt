@@ -17,9 +17,9 @@ use Rattle.semantics.specs.Answer.{Answer as Best, route, answer}
 use Rattle.semantics.specs.Paths.Near.{near-best}
 use Rattle.semantics.specs.Answers.Table.{unreached-answer, greedy-answer, greedy-steps}
 use Rattle.semantics.specs.Answers.Forward.{into-least}
-use Rattle.reader.specs.Fields.{mostPrice}
-use Rattle.reader.specs.Held.{automatonOf}
-use Rattle.reader.specs.Theorems.Access.{table-proper}
+use Rattle.table.specs.Fields.{mostPrice}
+use Rattle.table.specs.Held.{automatonOf}
+use Rattle.table.specs.Theorems.Access.{table-proper}
 use Rattle.search.specs.Outcome.{mostNodes, cleared}
 use Rattle.near.specs.declared.Cost.{Cost as CostHeld}
 use Rattle.space.specs.declared.Space.{Space}

@@ -9,11 +9,13 @@ use lib.ListN.{length, getD, drop}
 use Rattle.semantics.specs.NodeCount.{nodeCount}
 use Rattle.reader.specs.declared.Verdict.{Verdict}
 use Rattle.reader.specs.declared.Verdict.the-variants.{Accepted, Refused as Verdict·Refused}
-use Rattle.reader.specs.Fields.{Fields}
-use Rattle.reader.specs.Meaning.{automaton}
+use Rattle.table.specs.Fields.{Fields}
+use Rattle.table.specs.Meaning.{automaton}
 use Rattle.reader.specs.Read.{Judgement, accepted, rejected, read}
-use Rattle.reader.specs.Held.{fieldsOf, automatonOf, verdictOf, IsTable, Reading}
-use Rattle.reader.specs.Theorems.Holding.{fields-held, accepted-fields}
+use Rattle.table.specs.Held.{fieldsOf, automatonOf, IsTable}
+use Rattle.reader.specs.Reading.{verdictOf, Reading}
+use Rattle.table.specs.Theorems.Holding.{fields-held}
+use Rattle.reader.specs.Theorems.Accepted.{accepted-fields}
 use Rattle.rules.specs.Rules.{IsRules}
 use Rattle.search.specs.Outcome.{mostNodes}
 use Rattle.search.specs.declared.Searched.{Searched}

@@ -17,7 +17,7 @@ use Rattle.semantics.specs.NodeCount.{nodeCount}
 use Rattle.semantics.specs.Graph.Path.{Entry, unreached, infinity, chargeAt, stepsAt}
 use Rattle.semantics.specs.Answers.Marks.{LeavesMarked}
 use Rattle.semantics.specs.Answers.Trail.{Trail, trail-marked, trail-deep, trail-back}
-use Rattle.reader.specs.Held.{automatonOf}
+use Rattle.table.specs.Held.{automatonOf}
 use Rattle.space.specs.declared.Space.{Space}
 use Rattle.steps.specs.declared.Stand.{Stand}
 use Rattle.steps.specs.declared.Next.{Next}

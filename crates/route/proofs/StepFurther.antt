@@ -19,7 +19,7 @@ use Rattle.semantics.specs.Graph.Path.{reached, chargeAt, stepsAt}
 use Rattle.semantics.specs.Graph.CornerGraph.{numberOf}
 use Rattle.semantics.specs.Answers.Marks.{Led}
 use Rattle.semantics.specs.Answers.Trail.{Trail, trail-few, trail-marked, trail-entry, trail-further}
-use Rattle.reader.specs.Held.{automatonOf}
+use Rattle.table.specs.Held.{automatonOf}
 use Rattle.space.specs.declared.Space.{Space}
 use Rattle.steps.specs.declared.Stand.{Stand}
 use Rattle.steps.specs.declared.Next.{Next}

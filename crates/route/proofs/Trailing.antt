@@ -10,7 +10,7 @@ use lib.ListN.{length, getD, take, drop}
 use Rattle.semantics.specs.Order.{Cost, cost}
 use Rattle.semantics.specs.Graph.Path.{Entry, unreached, reached, infinity, chargeAt, stepsAt}
 use Rattle.semantics.specs.Answers.Trail.{Trail}
-use Rattle.reader.specs.Held.{automatonOf}
+use Rattle.table.specs.Held.{automatonOf}
 use Rattle.space.specs.declared.Space.{Space}
 use Rattle.steps.specs.declared.Stand.{Stand}
 use Rattle.steps.specs.Steps.{Marked}

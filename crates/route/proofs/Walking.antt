@@ -27,9 +27,9 @@ use Rattle.semantics.specs.Answers.System.{begin-inside}
 use Rattle.semantics.specs.Answers.Marks.{Led}
 use Rattle.semantics.specs.Answers.Forward.{into-least}
 use Rattle.semantics.specs.Answers.Trail.{Trail, trail-begins, trail-entry, trail-node, trail-among, trail-ends, trail-tried}
-use Rattle.reader.specs.Fields.{mostPrice}
-use Rattle.reader.specs.Held.{automatonOf}
-use Rattle.reader.specs.Theorems.Access.{table-proper, amounts-within}
+use Rattle.table.specs.Fields.{mostPrice}
+use Rattle.table.specs.Held.{automatonOf}
+use Rattle.table.specs.Theorems.Access.{table-proper, amounts-within}
 use Rattle.space.specs.declared.Space.{Space}
 use Rattle.steps.specs.declared.Stand.{Stand}
 use Rattle.steps.specs.declared.Next.{Next}

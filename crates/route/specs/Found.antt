@@ -8,7 +8,7 @@ use Rattle.semantics.specs.NodeCount.{nodeCount}
 use Rattle.semantics.specs.Graph.Path.{table}
 use Rattle.semantics.specs.Answer.{answer}
 use Rattle.semantics.specs.Answers.Walk.{NearCosts}
-use Rattle.reader.specs.Held.{automatonOf, IsTable}
+use Rattle.table.specs.Held.{automatonOf, IsTable}
 use Rattle.rules.specs.Rules.{IsRules}
 use Rattle.search.specs.Outcome.{mostNodes, cleared}
 use Rattle.space.specs.Space.{graphOf, startOf}

@@ -19,8 +19,8 @@ use Rattle.semantics.specs.Demand.{AtLeast, Approached, NoRun}
 use Rattle.semantics.specs.Answer.{Comes, NoChain, Answer as Found, noRoute, route, answer}
 use Rattle.semantics.specs.Answers.Best.{answer-best}
 use Rattle.semantics.specs.Answers.Demand.{answer-no-chain, answer-no-run, answer-at-least, answer-approached}
-use Rattle.reader.specs.Fields.{Fields}
-use Rattle.reader.specs.Meaning.{automaton}
+use Rattle.table.specs.Fields.{Fields}
+use Rattle.table.specs.Meaning.{automaton}
 use Rattle.reader.specs.Read.{Judgement, accepted, rejected, read}
 use Rattle.reader.specs.Theorems.Proper.{accepted-proper}
 use Rattle.reader.specs.Theorems.Refusals.{rejected-range}

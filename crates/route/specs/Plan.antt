@@ -7,7 +7,7 @@ use lib.Dec.{leb}
 use lib.ListN.{length, drop}
 use Rattle.semantics.specs.Automaton.{Automaton}
 use Rattle.semantics.specs.Answer.{Answer as Best, noRoute, route, answer}
-use Rattle.reader.specs.Meaning.{automaton}
+use Rattle.table.specs.Meaning.{automaton}
 use Rattle.reader.specs.Read.{Judgement, accepted, rejected, read}
 use Rattle.search.specs.declared.Searched.{Searched}
 use Rattle.search.specs.declared.Searched.the-variants.{Nodes as Searched·Nodes, Refused as Searched·Refused}

@@ -11,8 +11,8 @@ use Rattle.semantics.specs.Chain.{movesOf}
 use Rattle.semantics.specs.Order.{cost, Best}
 use Rattle.semantics.specs.Answer.{Comes, NoChain}
 use Rattle.semantics.specs.Demand.{AtLeast, Approached, NoRun}
-use Rattle.reader.specs.Fields.{Fields}
-use Rattle.reader.specs.Meaning.{automaton}
+use Rattle.table.specs.Fields.{Fields}
+use Rattle.table.specs.Meaning.{automaton}
 use Rattle.reader.specs.Read.{accepted, read}
 use Rattle.search.specs.Outcome.{mostNodes}
 use Rattle.route.specs.declared.Answer.{Answer}

@@ -10,10 +10,10 @@ use Rattle.semantics.specs.NodeCount.{nodeCount}
 use Rattle.semantics.specs.Order.{cost, Best}
 use Rattle.semantics.specs.Answer.{Comes}
 use Rattle.reader.specs.Parser.{refused, run}
-use Rattle.reader.specs.Fields.{Fields}
+use Rattle.table.specs.Fields.{Fields}
 use Rattle.reader.specs.Format.{table}
 use Rattle.reader.specs.Layout.{Layout}
-use Rattle.reader.specs.Meaning.{automaton}
+use Rattle.table.specs.Meaning.{automaton}
 
 -- The bytes begin with the layout of a table that has the fields f; `left` is what comes behind it.
 pub record Begins (bytes : List ℕ) (f : Fields) (left : List ℕ) : Type 0 where

@@ -16,9 +16,9 @@ use Rattle.semantics.specs.Order.{cost, Best}
 use Rattle.semantics.specs.Answer.{Comes, Answer as Found, noRoute, route, answer}
 use Rattle.semantics.specs.Answers.Best.{answer-best}
 use Rattle.reader.specs.Parser.{Outcome as Parsed, refused, took, run}
-use Rattle.reader.specs.Fields.{Fields}
+use Rattle.table.specs.Fields.{Fields}
 use Rattle.reader.specs.Format.{table}
-use Rattle.reader.specs.Meaning.{automaton}
+use Rattle.table.specs.Meaning.{automaton}
 use Rattle.reader.specs.Read.{accepted, rejected, judge, read}
 use Rattle.reader.specs.Theorems.Exactly.{frame, taken}
 use Rattle.reader.specs.Theorems.Accepts.{table-exactly}

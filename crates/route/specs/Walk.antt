@@ -13,7 +13,7 @@ use Rattle.semantics.specs.Graph.Path.{reached, infinity, chargeAt, stepsAt, ta
 use Rattle.semantics.specs.Graph.Distance.{distance}
 use Rattle.semantics.specs.Answer.{route, answer}
 use Rattle.semantics.specs.Answers.Walk.{NearCosts}
-use Rattle.reader.specs.Held.{automatonOf}
+use Rattle.table.specs.Held.{automatonOf}
 use Rattle.space.specs.declared.Space.{Space}
 use Rattle.steps.specs.declared.Stand.{Stand}
 use Rattle.steps.specs.declared.Next.{Next}

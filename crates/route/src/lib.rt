@@ -1,7 +1,7 @@
 // Layer 4: the call that plans a table.
 ghost use mathlib.Core.Path.{_≡_};
 ghost use lib.ListN.{length};
-ghost use Rattle.reader.specs.Held.{automatonOf, IsTable};
+ghost use Rattle.table.specs.Held.{automatonOf, IsTable};
 ghost use Rattle.route.specs.Plan.{outcome, plannedTable, planned};
 ghost use Rattle.route.specs.Promise.{KeepsDemand};
 ghost use Rattle.route.specs.Found.{Found, ReadOff};
@@ -10,10 +10,9 @@ mod walk;
 
 use near::INFINITY;
 use reader::Verdict;
-use reader::table;
-use reader::table::TABLE;
 use rules::RULES;
 use search::Searched;
+use table::TABLE;
 
 // "10: the route has more steps than route bytes lent".
 const ROUTE_TOO_LONG: u8 = 10;

@@ -3,13 +3,12 @@ ghost use mathlib.Core.Path.{_≡_};
 ghost use Prim.Native.Nat.{_/_, _<_, _≤_};
 ghost use Rattle.route.specs.Walk.{lowest, PruneRoom, Pruned, AdvanceReady, Advanced, BacktrackReady, Backtracked, WalkReady, WalkDone};
 use near::INFINITY;
-use reader::table;
-use reader::table::TABLE;
 use rules::RULES;
 use space::Space;
 use steps::NO_STEP;
 use steps::Next;
 use steps::Stand;
+use table::TABLE;
 
 // A second word from here on points back: it holds the first node and the marked corners of the place before. No node has as many steps.
 const BACK: u32 = 0x8000_0000;

@@ -7,7 +7,7 @@ use native.Mathlib.Numerals.{sub-one}
 use native.Mathlib.Omega.{arith}
 use Rattle.semantics.specs.Condition.{greater}
 use Rattle.semantics.specs.Regions.Windows.{free, lowest, above}
-use Rattle.reader.specs.Meaning.{comparisonOf}
+use Rattle.table.specs.Meaning.{comparisonOf}
 
 code-greater : (code : ℕ) → 4 < code → comparisonOf code ≡ greater
 code-greater zero h = absurd (omega arith)

@@ -7,7 +7,7 @@ use native.Mathlib.Decide.{ℕ-discrete}
 use native.Mathlib.Omega.{arith}
 use lib.ListN.{getD, take, drop}
 use Rattle.semantics.specs.Condition.{Condition}
-use Rattle.reader.specs.Meaning.{conditionsFrom}
+use Rattle.table.specs.Meaning.{conditionsFrom}
 use Rattle.rules.specs.Rules.{lowOf, highOf, IsRow}
 use Rattle.rules.specs.Making.{rowOf, Wrote, conditionBytes, FilledRows}
 

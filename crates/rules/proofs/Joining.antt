@@ -13,10 +13,9 @@ use lib.ListN.{length, getD, set, length-set}
 use lib.Seq.{getD-set-same, getD-set-other}
 use Rattle.semantics.specs.Automaton.{Automaton, Move, moveAt}
 use Rattle.semantics.specs.Run.{among}
-use Rattle.reader.specs.Format.{stands}
-use Rattle.reader.specs.Meaning.{namedTimers}
-use Rattle.reader.specs.Held.{automatonOf, fieldsOf, moveFieldsAt}
-use Rattle.reader.specs.Theorems.Access.{move-of-fields}
+use Rattle.table.specs.Meaning.{stands, namedTimers}
+use Rattle.table.specs.Held.{automatonOf, fieldsOf, moveFieldsAt}
+use Rattle.table.specs.Theorems.Access.{move-of-fields}
 use Rattle.rules.specs.Rules.{joinedLow, joinedHigh, lowAt, highAt}
 use Rattle.rules.specs.Making.{Joins, JoinedRow, JoinedRows}
 

@@ -15,7 +15,7 @@ use lib.ListN.{length, getD, take}
 use lib.Seq.{take-all}
 use Rattle.semantics.specs.Condition.{Condition}
 use Rattle.semantics.specs.Regions.Windows.{lowest, above}
-use Rattle.reader.specs.Meaning.{conditionOf, conditionsFrom}
+use Rattle.table.specs.Meaning.{conditionOf, conditionsFrom}
 use Rattle.rules.specs.Rules.{lowOf, highOf}
 use Rattle.rules.specs.Making.{rowOf, narrow}
 use Rattle.rules.specs.Laws.Windows.{low-own, high-own, low-other, high-other}

@@ -9,8 +9,8 @@ use native.Mathlib.Omega.{arith}
 use lib.ListN.{length, getD, set, length-set}
 use lib.Seq.{getD-set-same, getD-set-other}
 use Rattle.semantics.specs.Automaton.{Automaton, moveAt}
-use Rattle.reader.specs.Held.{automatonOf, IsTable}
-use Rattle.reader.specs.Theorems.Access.{table-proper, source-below, mode-count, counts}
+use Rattle.table.specs.Held.{automatonOf, IsTable}
+use Rattle.table.specs.Theorems.Access.{table-proper, source-below, mode-count, counts}
 use Rattle.rules.specs.Rules.{firstOf, afterOf, none, FirstFrom}
 use Rattle.rules.specs.Making.{OrderedFrom}
 

@@ -7,9 +7,9 @@ use native.Mathlib.Omega.{arith}
 use lib.ListN.{length, getD, take, drop}
 use lib.Seq.{drop-drop}
 use Rattle.semantics.specs.Automaton.{Mode, Move, modeAt, moveAt}
-use Rattle.reader.specs.Meaning.{conditionsFrom}
-use Rattle.reader.specs.Held.{automatonOf, IsTable}
-use Rattle.reader.specs.Theorems.Access.{mode-count, move-count, mode-at, move-at, target-below}
+use Rattle.table.specs.Meaning.{conditionsFrom}
+use Rattle.table.specs.Held.{automatonOf, IsTable}
+use Rattle.table.specs.Theorems.Access.{mode-count, move-count, mode-at, move-at, target-below}
 use Rattle.rules.specs.Rules.{none, targetConditions, IsRow, IsMoveRow, IsRules}
 use Rattle.rules.specs.Making.{Wrote, conditionBytes, FilledRows, JoinedRows, OrderedFrom}
 use Rattle.rules.proofs.Filling.{row-kept}

@@ -9,8 +9,7 @@ use Rattle.semantics.specs.Condition.{Condition}
 use Rattle.semantics.specs.Automaton.{Automaton, moveAt}
 use Rattle.semantics.specs.Run.{among}
 use Rattle.semantics.specs.Regions.Windows.{lowest, above}
-use Rattle.reader.specs.Format.{stands}
-use Rattle.reader.specs.Meaning.{conditionsFrom}
+use Rattle.table.specs.Meaning.{stands, conditionsFrom}
 use Rattle.rules.specs.Rules.{lowOf, highOf, joinedLow, joinedHigh, lowAt, highAt, firstOf, afterOf, FirstFrom, IsRow}
 
 -- The six bytes of a row.

@@ -12,7 +12,7 @@ use Rattle.semantics.specs.Condition.{Condition}
 use Rattle.semantics.specs.Automaton.{Automaton, modeAt, moveAt}
 use Rattle.semantics.specs.Run.{among}
 use Rattle.semantics.specs.Regions.Windows.{free, lowest, above}
-use Rattle.reader.specs.Held.{automatonOf}
+use Rattle.table.specs.Held.{automatonOf}
 
 -- The window of timer x by conditions: the highest of their lowest places, and the lowest of those that are first above them.
 abbrev pub lowOf : List Condition → ℕ → ℕ

@@ -6,10 +6,9 @@ ghost use mathlib.Core.Logic.{_↔_};
 ghost use Prim.Native.Nat.{_<_};
 ghost use lib.Dec.{leb, ltb};
 ghost use lib.ListN.{length};
-ghost use Rattle.reader.specs.Held.{IsTable};
+ghost use Rattle.table.specs.Held.{IsTable};
 ghost use Rattle.rules.specs.Rules.{lowAt, highAt, InRow, firstOf, afterOf, IsRules};
-use reader::table;
-use reader::table::TABLE;
+use table::TABLE;
 
 mod order;
 mod rows;

@@ -2,15 +2,14 @@
 ghost use mathlib.Core.Path.{_≡_};
 ghost use Prim.Native.Nat.{ℕ, _<_, _≤_};
 ghost use lib.ListN.{length};
-ghost use Rattle.reader.specs.Held.{automatonOf, IsTable};
+ghost use Rattle.table.specs.Held.{automatonOf, IsTable};
 ghost use Rattle.rules.specs.Rules.{firstOf, none};
 ghost use Rattle.rules.specs.Making.{Wrote, OrderedFrom};
 use crate::AFTER;
 use crate::FIRST;
 use crate::NONE;
 use crate::RULES;
-use reader::table;
-use reader::table::TABLE;
+use table::TABLE;
 
 // No move is the first one of a mode.
 pub fn no_moves(rules: &mut [u8; RULES], modes: usize)

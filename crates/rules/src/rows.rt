@@ -2,7 +2,7 @@
 ghost use mathlib.Core.Path.{_≡_};
 ghost use Prim.Native.Nat.{ℕ, _+_, _*_, _<_, _≤_};
 ghost use lib.ListN.{length, getD, take, drop};
-ghost use Rattle.reader.specs.Held.{automatonOf, IsTable};
+ghost use Rattle.table.specs.Held.{automatonOf, IsTable};
 ghost use Rattle.rules.specs.Making.{conditionBytes, FilledRows, JoinedRow, JoinedRows, Wrote};
 use crate::GUARDS;
 use crate::ROW;
@@ -10,9 +10,8 @@ use crate::RULES;
 use crate::windows::joined_high;
 use crate::windows::joined_low;
 use crate::windows::windows;
-use reader::MOST_TIMERS;
-use reader::table;
-use reader::table::TABLE;
+use table::MOST_TIMERS;
+use table::TABLE;
 
 // For each of so many records, of so many bytes each, whose conditions stand from `at` on, the windows: in the rows from `row` on.
 pub fn fill(

@@ -2,7 +2,7 @@
 ghost use mathlib.Core.Path.{_≡_};
 ghost use Prim.Native.Nat.{_/_, _%_, _<_, max, min};
 ghost use Rattle.semantics.specs.Regions.Windows.{lowest, above};
-ghost use Rattle.reader.specs.Meaning.{comparisonOf, conditionOf, conditionsFrom};
+ghost use Rattle.table.specs.Meaning.{comparisonOf, conditionOf, conditionsFrom};
 ghost use Rattle.rules.specs.Rules.{joinedLow, joinedHigh};
 ghost use Rattle.rules.specs.Making.{rowOf, narrow};
 use crate::ROW;

@@ -11,7 +11,7 @@ use Rattle.semantics.specs.Nodes.Node.{nodeOf, nodeNumber}
 use Rattle.semantics.specs.Corners.Edges.{resetAllCorner}
 use Rattle.semantics.specs.Graph.Path.{Edge, Leaves, infinity}
 use Rattle.semantics.specs.Answers.Moving.{movedTo, MoveEdge, edge-move, move-edge}
-use Rattle.reader.specs.Held.{automatonOf, fieldsOf, moveFieldsAt}
+use Rattle.table.specs.Held.{automatonOf, fieldsOf, moveFieldsAt}
 use Rattle.regions.specs.Held.{view}
 use Rattle.rules.specs.Rules.{none}
 use Rattle.queue.specs.Queue.{RelaxReady, RelaxDone}

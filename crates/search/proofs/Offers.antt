@@ -6,7 +6,7 @@ use Prim.Native.Nat.{ℕ, suc, _+_, _<_}
 use native.Mathlib.Omega.{arith}
 use Rattle.semantics.specs.Order.{Cost}
 use Rattle.semantics.specs.Graph.Path.{Edge, Leaves, infinity, chargeAt, stepsAt}
-use Rattle.reader.specs.Fields.{mostPrice}
+use Rattle.table.specs.Fields.{mostPrice}
 use Rattle.queue.specs.Queue.{lows, RelaxReady, RelaxDone}
 use Rattle.space.specs.declared.Space.{Space}
 use Rattle.space.specs.Space.{graphOf, Setting}

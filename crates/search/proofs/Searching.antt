@@ -14,8 +14,8 @@ use Rattle.semantics.specs.Graph.Near.{turned, near, nearWords}
 use Rattle.semantics.specs.Paths.Found.{wordsAt, wordsOf, words-gathered}
 use Rattle.semantics.specs.Paths.Near.{found-near}
 use Rattle.semantics.specs.Answers.Graph.{graph-nodes}
-use Rattle.reader.specs.Fields.{mostPrice}
-use Rattle.reader.specs.Held.{automatonOf, IsTable}
+use Rattle.table.specs.Fields.{mostPrice}
+use Rattle.table.specs.Held.{automatonOf, IsTable}
 use Rattle.rules.specs.Rules.{IsRules}
 use Rattle.regions.specs.Nodes.{mostNodes}
 use Rattle.space.specs.declared.Space.{Space}

@@ -17,7 +17,7 @@ use Rattle.semantics.specs.Paths.Near.{BestTarget, TargetWithin}
 use Rattle.semantics.specs.Paths.Settling.{keyOf}
 use Rattle.semantics.specs.Paths.Sum.{sum-same}
 use Rattle.semantics.specs.Answers.Modes.{graph-goal}
-use Rattle.reader.specs.Held.{automatonOf}
+use Rattle.table.specs.Held.{automatonOf}
 use Rattle.regions.specs.declared.nodes.NodeRegion.{NodeRegion}
 use Rattle.queue.specs.Tournament.{none}
 use Rattle.queue.specs.Queue.{lows, slotAt, key, costIn, Queue, Seated, SettleReady, SettleDone}

@@ -13,7 +13,7 @@ use Rattle.semantics.specs.Graph.Path.{Edge, Leaves, infinity}
 use Rattle.semantics.specs.Graph.Near.{turn, turned}
 use Rattle.semantics.specs.Bounds.Steps.{rateAt}
 use Rattle.semantics.specs.Paths.Lower.{relaxed-loop}
-use Rattle.reader.specs.Held.{automatonOf}
+use Rattle.table.specs.Held.{automatonOf}
 use Rattle.regions.specs.Held.{view}
 use Rattle.queue.specs.Queue.{RelaxReady, RelaxDone}
 use Rattle.space.specs.Space.{graphOf, placeAt, IsCorner}

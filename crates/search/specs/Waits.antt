@@ -10,7 +10,7 @@ use Rattle.semantics.specs.Graph.Path.{Edge}
 use Rattle.semantics.specs.Graph.CornerGraph.{numberOf}
 use Rattle.semantics.specs.Bounds.Steps.{rateAt}
 use Rattle.semantics.specs.Answers.Waiting.{delayedTo}
-use Rattle.reader.specs.Held.{automatonOf}
+use Rattle.table.specs.Held.{automatonOf}
 use Rattle.regions.specs.Held.{view}
 use Rattle.space.specs.declared.Space.{Space}
 use Rattle.space.specs.Space.{placeAt}

@@ -4,13 +4,12 @@ ghost use Prim.Native.Nat.{_+_, _*_, _<_, _≤_};
 ghost use Rattle.space.specs.Images.{imageOf, ImageReady, Images, ImageDone};
 ghost use Rattle.search.specs.Edges.{IsMove, IsWait, IsAny, Short, EdgesReady, EdgesDone};
 ghost use Rattle.search.specs.Waits.{IsDelay, IsLinger, WaitReady, WaitDone, DelayReady};
-use reader::table;
-use reader::table::TABLE;
 use regions::nodes;
 use regions::nodes::NodeRegion;
 use rules::RULES;
 use space::Space;
 use space::moves;
+use table::TABLE;
 
 // A node whose edges are relaxed: the corner that it is, its charge, and the steps with which its edges arrive, one more than its own.
 pub struct Source {

@@ -2,7 +2,7 @@
 ghost use mathlib.Core.Path.{_≡_};
 ghost use Prim.Native.Nat.{_<_};
 ghost use lib.ListN.{length};
-ghost use Rattle.reader.specs.Held.{automatonOf, IsTable};
+ghost use Rattle.table.specs.Held.{automatonOf, IsTable};
 ghost use Rattle.rules.specs.Rules.{IsRules};
 ghost use Rattle.search.specs.Outcome.{answered, searched, cleared};
 
@@ -10,10 +10,10 @@ mod edges;
 mod settle;
 mod words;
 
-use reader::table::TABLE;
 use regions::nodes;
 use regions::nodes::Nodes;
 use rules::RULES;
+use table::TABLE;
 
 // "8: E above 65,536".
 const TOO_MANY_NODES: u8 = 8;

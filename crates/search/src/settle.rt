@@ -4,10 +4,10 @@ use crate::edges;
 use crate::edges::Source;
 use near::Cost;
 use near::INFINITY;
-use reader::table::TABLE;
 use regions::nodes;
 use rules::RULES;
 use space::Space;
+use table::TABLE;
 
 // Settles the nodes in the order of their costs up to the first of the goal, whose cost it gives: both INFINITY if there is none.
 pub fn settle_all(

@@ -17,7 +17,7 @@ use Rattle.semantics.specs.Regions.Windows.{half}
 use Rattle.semantics.specs.Answers.Places.{IsPlace}
 use Rattle.semantics.specs.Answers.Waiting.{delayedTo}
 use Rattle.semantics.specs.Answers.WaitingNodes.{empty-fewer, delayed-place}
-use Rattle.reader.specs.Held.{automatonOf}
+use Rattle.table.specs.Held.{automatonOf}
 use Rattle.rules.specs.Rules.{InRow}
 use Rattle.rules.specs.Laws.Windows.{mode-window}
 use Rattle.regions.specs.declared.Region.{Region}

@@ -18,8 +18,8 @@ use Rattle.semantics.specs.Bounds.Prices.{price}
 use Rattle.semantics.specs.Bounds.Moved.{moved-to}
 use Rattle.semantics.specs.Answers.Places.{IsPlace}
 use Rattle.semantics.specs.Answers.Moving.{movedTo, moved-place, last-price, first-price}
-use Rattle.reader.specs.Meaning.{namedTimers}
-use Rattle.reader.specs.Held.{automatonOf, pad}
+use Rattle.table.specs.Meaning.{namedTimers}
+use Rattle.table.specs.Held.{automatonOf, pad}
 use Rattle.regions.specs.declared.Region.{Region}
 use Rattle.regions.specs.declared.nodes.NodeRegion.{NodeRegion}
 use Rattle.regions.specs.Held.{mostCorners, pack, view}

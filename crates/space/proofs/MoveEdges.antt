@@ -23,8 +23,8 @@ use Rattle.semantics.specs.Graph.Path.{Edge}
 use Rattle.semantics.specs.Graph.CornerGraph.{numberOf}
 use Rattle.semantics.specs.Answers.Places.{IsPlace}
 use Rattle.semantics.specs.Answers.Moving.{movedTo, moved-place, MoveEdge}
-use Rattle.reader.specs.Held.{automatonOf, IsTable}
-use Rattle.reader.specs.Theorems.Access.{table-proper}
+use Rattle.table.specs.Held.{automatonOf, IsTable}
+use Rattle.table.specs.Theorems.Access.{table-proper}
 use Rattle.rules.specs.Rules.{targetConditions, IsRules}
 use Rattle.rules.specs.Laws.Windows.{move-window}
 use Rattle.space.specs.Halves.{half-resets}

@@ -8,7 +8,7 @@ use native.Mathlib.Decide.{decLt}
 use native.Mathlib.Omega.{arith}
 use lib.ListN.{length}
 use Rattle.semantics.specs.Automaton.{Automaton, moveAt}
-use Rattle.reader.specs.Held.{automatonOf}
+use Rattle.table.specs.Held.{automatonOf}
 use Rattle.rules.specs.Rules.{none, firstOf, afterOf, FirstFrom, IsRules}
 use Rattle.space.specs.Moves.{Open, NextFrom, NextMove, OpenFrom}
 

@@ -9,7 +9,7 @@ use native.Mathlib.Omega.{arith}
 use lib.Dec.{leb, ltb}
 use lib.ListN.{length, getD}
 use Rattle.semantics.specs.Automaton.{moveAt}
-use Rattle.reader.specs.Held.{automatonOf}
+use Rattle.table.specs.Held.{automatonOf}
 use Rattle.rules.specs.Rules.{none, lowAt, highAt, afterOf, FirstFrom, IsRules}
 use Rattle.rules.proofs.TimerTests.{InUpTo, in-not}
 use Rattle.space.specs.Moves.{Open, NextFrom, NextMove}

@@ -19,8 +19,8 @@ use Rattle.semantics.specs.Graph.CornerGraph.{numberOf}
 use Rattle.semantics.specs.Regions.Windows.{half, free}
 use Rattle.semantics.specs.Answers.Places.{IsPlace, corner-top, number-below}
 use Rattle.semantics.specs.Answers.Moving.{number-row}
-use Rattle.reader.specs.Held.{pad, automatonOf, IsTable}
-use Rattle.reader.specs.Theorems.Access.{table-proper, getD-all, getD-pad}
+use Rattle.table.specs.Held.{pad, automatonOf, IsTable}
+use Rattle.table.specs.Theorems.Access.{table-proper, getD-all, getD-pad}
 use Rattle.regions.specs.declared.Region.{Region}
 use Rattle.regions.specs.declared.nodes.NodeRegion.{NodeRegion}
 use Rattle.regions.specs.Held.{view, Valid, WholeRoom, HalfRoom}

@@ -11,7 +11,7 @@ use Rattle.semantics.specs.Region.{PricedRegion, start}
 use Rattle.semantics.specs.NodeCount.{cornerCount, cellCount}
 use Rattle.semantics.specs.Nodes.Node.{nodeOf, nodeNumber}
 use Rattle.semantics.specs.Graph.CornerGraph.{numberOf}
-use Rattle.reader.specs.Held.{automatonOf, IsTable}
+use Rattle.table.specs.Held.{automatonOf, IsTable}
 use Rattle.regions.specs.declared.Region.{Region}
 use Rattle.regions.specs.Held.{mostTimers, pad, pack, view, Valid}
 use Rattle.regions.specs.Nodes.{mostModes, mostCells, CeilingsFew, Padded}

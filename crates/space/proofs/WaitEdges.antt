@@ -22,7 +22,7 @@ use Rattle.semantics.specs.Bounds.Prices.{price, leave-price, leave-last, arriv
 use Rattle.semantics.specs.Bounds.Steps.{rateAt}
 use Rattle.semantics.specs.Answers.Waiting.{Indexed, delayedTo, DelayEdge, edge-delay, delay-edge}
 use Rattle.semantics.specs.Answers.WaitingNodes.{edge-linger, linger-edge, delayed-place}
-use Rattle.reader.specs.Held.{automatonOf}
+use Rattle.table.specs.Held.{automatonOf}
 use Rattle.regions.specs.declared.nodes.NodeRegion.{NodeRegion}
 use Rattle.regions.specs.Held.{view}
 use Rattle.space.specs.Space.{graphOf, placeAt, IsCorner}

@@ -8,8 +8,8 @@ use lib.ListN.{length, getD, take}
 use Rattle.semantics.specs.Region.{resetAll}
 use Rattle.semantics.specs.Nodes.Node.{nodeOf, nodeNumber}
 use Rattle.semantics.specs.Corners.Edges.{resetAllCorner}
-use Rattle.reader.specs.Meaning.{namedTimers}
-use Rattle.reader.specs.Held.{automatonOf, fieldsOf, moveFieldsAt}
+use Rattle.table.specs.Meaning.{namedTimers}
+use Rattle.table.specs.Held.{automatonOf, fieldsOf, moveFieldsAt}
 use Rattle.regions.specs.declared.nodes.NodeRegion.{NodeRegion}
 use Rattle.regions.specs.Held.{view}
 use Rattle.space.specs.declared.Space.{Space}

@@ -5,7 +5,7 @@ use mathlib.Core.List.{List}
 use Prim.Native.Nat.{ℕ, _+_, _≤_, _<_}
 use lib.ListN.{length}
 use Rattle.semantics.specs.Automaton.{moveAt}
-use Rattle.reader.specs.Held.{automatonOf}
+use Rattle.table.specs.Held.{automatonOf}
 use Rattle.rules.specs.Rules.{none, InRow, IsRules}
 
 -- Move e is not passed over: its own conditions hold, and after its resets the target's. Its row of the rules has both.

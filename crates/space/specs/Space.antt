@@ -13,7 +13,7 @@ use Rattle.semantics.specs.Graph.Path.{Graph}
 use Rattle.semantics.specs.Graph.CornerGraph.{numberOf, startNode, cornerGraph}
 use Rattle.semantics.specs.Answers.Places.{IsPlace}
 use Rattle.semantics.specs.Answers.Waiting.{Indexed}
-use Rattle.reader.specs.Held.{automatonOf, IsTable}
+use Rattle.table.specs.Held.{automatonOf, IsTable}
 use Rattle.rules.specs.Rules.{IsRules}
 use Rattle.regions.specs.declared.nodes.NodeRegion.{NodeRegion}
 use Rattle.regions.specs.Held.{mostTimers, pad, view, Valid}

@@ -1,14 +1,13 @@
 // Layer 3: how the nodes of a table are numbered, and where chains begin; the moves that are not passed over, and where they lead. The search and the
 // steps of a walk use them.
-ghost use Rattle.reader.specs.Held.{IsTable};
+ghost use Rattle.table.specs.Held.{IsTable};
 ghost use Rattle.space.specs.Space.{IsSpace, StartReady, IsStart};
 
 pub mod moves;
 
-use reader::table;
-use reader::table::TABLE;
 use regions::Region;
 use regions::nodes;
+use table::TABLE;
 
 // The number of nodes, and of those of a mode; the number of timers, and their ceilings, 0 behind the last one.
 pub struct Space {

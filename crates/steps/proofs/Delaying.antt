@@ -10,7 +10,7 @@ use Rattle.semantics.specs.Automaton.{modeAt}
 use Rattle.semantics.specs.Region.{top, delay, meetsAll, within}
 use Rattle.semantics.specs.Nodes.Node.{nodeOf, nodeNumber}
 use Rattle.semantics.specs.Answers.Waiting.{delayedTo}
-use Rattle.reader.specs.Held.{automatonOf}
+use Rattle.table.specs.Held.{automatonOf}
 use Rattle.rules.specs.Rules.{InRow, IsRules}
 use Rattle.regions.specs.declared.Region.{Region}
 use Rattle.regions.specs.declared.nodes.NodeRegion.{NodeRegion}

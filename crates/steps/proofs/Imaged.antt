@@ -14,8 +14,8 @@ use Rattle.semantics.specs.Nodes.Node.{nodeOf, nodeNumber}
 use Rattle.semantics.specs.Graph.CornerGraph.{numberOf}
 use Rattle.semantics.specs.Answers.Places.{IsPlace}
 use Rattle.semantics.specs.Answers.Moving.{movedTo, moved-place}
-use Rattle.reader.specs.Meaning.{namedTimers}
-use Rattle.reader.specs.Held.{automatonOf, pad}
+use Rattle.table.specs.Meaning.{namedTimers}
+use Rattle.table.specs.Held.{automatonOf, pad}
 use Rattle.regions.specs.declared.Region.{Region}
 use Rattle.regions.specs.declared.nodes.NodeRegion.{NodeRegion}
 use Rattle.regions.specs.Held.{pack, view, Valid}

@@ -17,9 +17,9 @@ use Rattle.semantics.specs.Answers.Places.{IsPlace}
 use Rattle.semantics.specs.Answers.Moving.{movedTo, moved-place, last-price}
 use Rattle.semantics.specs.Answers.Marks.{Led}
 use Rattle.semantics.specs.Answers.Led.{led-move, moved-number}
-use Rattle.reader.specs.Meaning.{namedTimers}
-use Rattle.reader.specs.Held.{automatonOf, fieldsOf, moveFieldsAt}
-use Rattle.reader.specs.Theorems.Access.{price-within, move-of-fields}
+use Rattle.table.specs.Meaning.{namedTimers}
+use Rattle.table.specs.Held.{automatonOf, fieldsOf, moveFieldsAt}
+use Rattle.table.specs.Theorems.Access.{price-within, move-of-fields}
 use Rattle.regions.specs.declared.nodes.NodeRegion.{NodeRegion}
 use Rattle.regions.specs.Held.{view}
 use Rattle.space.specs.declared.Space.{Space}

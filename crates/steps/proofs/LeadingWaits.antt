@@ -22,8 +22,8 @@ use Rattle.semantics.specs.Answers.Places.{IsPlace, corner-top}
 use Rattle.semantics.specs.Answers.Waiting.{delayedTo, delay-comes, after, after-same, after-step}
 use Rattle.semantics.specs.Answers.Marks.{Grows, Led}
 use Rattle.semantics.specs.Answers.LedWaits.{delayed-number, lingered-number, led-delay, led-linger, led-idle}
-use Rattle.reader.specs.Held.{automatonOf}
-use Rattle.reader.specs.Theorems.Access.{rate-within}
+use Rattle.table.specs.Held.{automatonOf}
+use Rattle.table.specs.Theorems.Access.{rate-within}
 use Rattle.regions.specs.declared.Region.{Region}
 use Rattle.regions.specs.declared.nodes.NodeRegion.{NodeRegion}
 use Rattle.regions.specs.Held.{view, Valid}

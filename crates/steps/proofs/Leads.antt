@@ -10,7 +10,7 @@ use native.Mathlib.Omega.{arith}
 use lib.Dec.{ltb}
 use lib.ListN.{getD}
 use Rattle.semantics.specs.Region.{PricedRegion, top}
-use Rattle.reader.specs.Held.{pad}
+use Rattle.table.specs.Held.{pad}
 use Rattle.steps.specs.declared.Stand.{Stand}
 use Rattle.steps.specs.Steps.{Marked}
 use Rattle.steps.specs.Images.{cornerOf}

@@ -14,7 +14,7 @@ use Rattle.semantics.specs.Bounds.Steps.{movedBy, moves, view-step}
 use Rattle.semantics.specs.Bounds.Shapes.{shape-charge, shape-meetsAll}
 use Rattle.semantics.specs.Answers.Moving.{movedTo, edge-move}
 use Rattle.semantics.specs.Answers.Marks.{Led}
-use Rattle.reader.specs.Held.{automatonOf, fieldsOf, moveFieldsAt}
+use Rattle.table.specs.Held.{automatonOf, fieldsOf, moveFieldsAt}
 use Rattle.rules.specs.Rules.{none, IsRules}
 use Rattle.regions.specs.declared.nodes.NodeRegion.{NodeRegion}
 use Rattle.regions.specs.Held.{view}

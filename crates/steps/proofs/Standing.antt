@@ -18,7 +18,7 @@ use Rattle.semantics.specs.Graph.CornerGraph.{numberOf}
 use Rattle.semantics.specs.Answers.Places.{IsPlace, corner-top}
 use Rattle.semantics.specs.Answers.Marks.{Grows, Led}
 use Rattle.semantics.specs.Answers.Led.{grows-iff}
-use Rattle.reader.specs.Held.{automatonOf}
+use Rattle.table.specs.Held.{automatonOf}
 use Rattle.rules.specs.Rules.{IsRules}
 use Rattle.regions.specs.declared.nodes.NodeRegion.{NodeRegion}
 use Rattle.regions.specs.Held.{view}

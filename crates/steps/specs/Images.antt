@@ -7,7 +7,7 @@ use Prim.Native.Nat.{ℕ, _*_, _/_, _%_, _^_, _<_}
 use lib.ListN.{length, getD, take}
 use Rattle.semantics.specs.Region.{PricedRegion, top, resetAll}
 use Rattle.semantics.specs.Nodes.Node.{nodeOf, nodeNumber}
-use Rattle.reader.specs.Meaning.{namedTimers}
+use Rattle.table.specs.Meaning.{namedTimers}
 use Rattle.regions.specs.declared.Region.{Region}
 use Rattle.regions.specs.declared.nodes.NodeRegion.{NodeRegion}
 use Rattle.regions.specs.Held.{view, Valid}

@@ -12,7 +12,7 @@ use Rattle.semantics.specs.Region.{PricedRegion, top}
 use Rattle.semantics.specs.Chain.{Place, step}
 use Rattle.semantics.specs.Graph.Path.{Entry, infinity, chargeAt, stepsAt}
 use Rattle.semantics.specs.Answers.Marks.{Led}
-use Rattle.reader.specs.Held.{automatonOf, fieldsOf, moveFieldsAt, IsTable}
+use Rattle.table.specs.Held.{automatonOf, fieldsOf, moveFieldsAt, IsTable}
 use Rattle.rules.specs.Rules.{none, IsRules}
 use Rattle.regions.specs.declared.Region.{Region}
 use Rattle.regions.specs.declared.nodes.NodeRegion.{NodeRegion}

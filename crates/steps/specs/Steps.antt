@@ -12,7 +12,7 @@ use Rattle.semantics.specs.Chain.{Place, step}
 use Rattle.semantics.specs.Graph.Path.{Entry, reached, infinity, chargeAt, stepsAt}
 use Rattle.semantics.specs.Graph.CornerGraph.{numberOf}
 use Rattle.semantics.specs.Answers.Marks.{Led}
-use Rattle.reader.specs.Held.{automatonOf}
+use Rattle.table.specs.Held.{automatonOf}
 use Rattle.space.specs.declared.Space.{Space}
 use Rattle.steps.specs.declared.Stand.{Stand}
 use Rattle.steps.specs.declared.Next.{Next}

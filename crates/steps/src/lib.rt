@@ -10,14 +10,13 @@ ghost use Rattle.steps.specs.Steps.{Marked, StandReady, noStep, NextStep
 ghost use Rattle.steps.specs.Images.{cornerOf, RegionReady, Goes, IsImage, Images, ImageDone};
 ghost use Rattle.steps.specs.Leading.{Adds, TightReady, TightAt, LedTo, CornersReady, LeadReady, IsLed, MoveEdges, LedMoveReady, DelayEdges, LedDelayReady, TriedOne, Tried, MoveByte, OnlyByte, IsFound, StepReady, AlongReady, FromReady, FromDone, LingerReady, LingerTried};
 ghost use Rattle.space.specs.Images.{ImageReady};
-use reader::table;
-use reader::table::TABLE;
 use regions::Region;
 use regions::nodes;
 use regions::nodes::NodeRegion;
 use rules::RULES;
 use space::Space;
 use space::moves;
+use table::TABLE;
 
 // Where a walk stands: the node of the place's corner 0, a bit for each of its corners that is marked, how many steps led to it, and the byte from
 // which on steps are still to be tried.

@@ -10,10 +10,10 @@ use mathlib.Core.List.{List, [], _∷_, _++_, List·Memᴰ, List·Memᴰ·cases-
 use lib.ListN.{length}
 use Rattle.semantics.specs.Automaton.{startHolds}
 use Rattle.reader.specs.Parser.{Outcome, refused, took, run}
-use Rattle.reader.specs.Fields.{Fields}
+use Rattle.table.specs.Fields.{Fields}
 use Rattle.reader.specs.Format.{Header, header, table}
 use Rattle.reader.specs.Layout.{InRow, none, more, ModeLayout, MoveLayout, Layout}
-use Rattle.reader.specs.Meaning.{automaton}
+use Rattle.table.specs.Meaning.{automaton}
 use Rattle.reader.specs.Read.{accepted, rejected, judge, read}
 use Rattle.reader.specs.Theorems.Running.{took-same}
 use Rattle.reader.specs.Theorems.Exactly.{Exactly, Both, both, both-given, One, Row, reworded, within-exactly, order-exactly, Made, made}

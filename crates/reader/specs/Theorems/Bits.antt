@@ -7,7 +7,7 @@ use mathlib.Core.Path.{_≡_, sym, ap, _∙_}
 use mathlib.Core.Bool.{true}
 use borrow.Author.Tests.{eq-eqb, eqb-true}
 use lib.Pow.{pow-add}
-use Rattle.reader.specs.Format.{stands}
+use Rattle.table.specs.Meaning.{stands}
 use Rattle.reader.specs.Layout.{TimersThere}
 
 -- Bit first + x of b is bit x of b / 2 ^ first.

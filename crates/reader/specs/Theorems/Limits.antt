@@ -8,7 +8,7 @@ use mathlib.Core.Logic.{inl, inr}
 use mathlib.Core.Bool.{Bool}
 use mathlib.Core.List.{List, [], _∷_, _++_, List·Memᴰ, List·Memᴰ·cases-cons, List·Memᴰ·not-nil}
 use lib.ListN.{length, getD, length-append}
-use Rattle.reader.specs.Fields.{mostPrice, ModeFields, MoveFields, Fields}
+use Rattle.table.specs.Fields.{mostPrice, ModeFields, MoveFields, Fields}
 use Rattle.reader.specs.Layout.{Optional, present, absent, InRow, none, more, ModeLayout, MoveLayout, Layout}
 use Rattle.reader.specs.Read.{accepted, read}
 use Rattle.reader.specs.Theorems.Accepts.{accepts}

@@ -11,8 +11,9 @@ use lib.ListN.{take}
 use borrow.Author.Tests.{leb-true}
 use Rattle.semantics.specs.Regions.Compare.{and-true-iff}
 use Rattle.reader.specs.Parser.{Parser, done, refuse, byte, _>>=_, inOrder, Outcome, refused, took, run}
-use Rattle.reader.specs.Fields.{Fields}
-use Rattle.reader.specs.Format.{within, anyByte, ifStands, stands, present, bitMap, amount, conditions, modeRecord, moveRecord, Header, header, table}
+use Rattle.table.specs.Fields.{Fields}
+use Rattle.table.specs.Meaning.{stands}
+use Rattle.reader.specs.Format.{within, anyByte, ifStands, present, bitMap, amount, conditions, modeRecord, moveRecord, Header, header, table}
 use Rattle.reader.specs.Read.{judge, read}
 
 -- The parser takes at most d bytes, and the values that it gives are good.

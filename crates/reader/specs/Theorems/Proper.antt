@@ -13,13 +13,13 @@ use lib.Dec.{eqb}
 use lib.ListN.{length, length-map}
 use Rattle.semantics.specs.Automata.Proper.{OnTimers, Proper}
 use Rattle.semantics.specs.Automaton.{Move, startHolds}
-use Rattle.reader.specs.Fields.{MoveFields, Fields}
-use Rattle.reader.specs.Format.{stands}
+use Rattle.table.specs.Fields.{MoveFields, Fields}
+use Rattle.table.specs.Meaning.{stands, conditionOf, conditionsFrom, named, namedTimers, modeOf, moveOf, automaton}
 use Rattle.reader.specs.Layout.{Optional, present, absent, InRow, none, more, TimersThere, IsCondition, IsReset, SixConditions, MoveLayout, Layout}
-use Rattle.reader.specs.Meaning.{conditionOf, conditionsFrom, named, namedTimers, modeOf, moveOf, automaton}
 use Rattle.reader.specs.Read.{accepted, read}
 use Rattle.reader.specs.Theorems.Accepts.{accepts}
-use Rattle.reader.specs.Theorems.Rows.{row-all, map-all}
+use Rattle.table.specs.Theorems.Access.{map-all}
+use Rattle.reader.specs.Theorems.Rows.{row-all}
 
 -- A condition that is there has its bit.
 optional-stands : {Good : ℕ → Type 0} {t : Bool} (xs : List ℕ) (b : ℕ) → Optional Good t xs b → (b ≡ 0 → ⊥) → t ≡ true

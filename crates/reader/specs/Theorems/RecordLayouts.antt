@@ -9,8 +9,9 @@ use mathlib.Core.List.{List, [], _∷_, _++_, append-nil}
 use borrow.Author.Tests.{lt-ltb, ltb-true}
 use lib.Pow.{pow-pos, pow-mono}
 use Rattle.semantics.specs.Regions.Compare.{and-true-iff}
-use Rattle.reader.specs.Fields.{ModeFields, MoveFields}
-use Rattle.reader.specs.Format.{within, bitMap, amount, conditions, stands, present, modeRecord, moveRecord}
+use Rattle.table.specs.Fields.{ModeFields, MoveFields}
+use Rattle.table.specs.Meaning.{stands}
+use Rattle.reader.specs.Format.{within, bitMap, amount, conditions, present, modeRecord, moveRecord}
 use Rattle.reader.specs.Layout.{Optional, TimersThere, Amount, SixConditions, IsReset, ModeLayout, MoveLayout}
 use Rattle.reader.specs.Theorems.Bits.{there-below, below-there}
 use Rattle.reader.specs.Theorems.Exactly.{Exactly, Both, both, One, reworded, guarded, within-exactly, any-exactly, optional-exactly, order-exactly, Made, made}

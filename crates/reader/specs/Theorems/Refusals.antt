@@ -8,9 +8,9 @@ use mathlib.Core.List.{List, [], _∷_}
 use lib.Dec.{leb}
 use Rattle.semantics.specs.Automaton.{startHolds}
 use Rattle.reader.specs.Parser.{Parser, done, refuse, byte, _>>=_, inOrder, Outcome, refused, took, run}
-use Rattle.reader.specs.Fields.{Fields}
-use Rattle.reader.specs.Format.{within, anyByte, ifStands, stands, present, bitMap, amount, conditions, modeRecord, moveRecord, header, table}
-use Rattle.reader.specs.Meaning.{automaton}
+use Rattle.table.specs.Fields.{Fields}
+use Rattle.table.specs.Meaning.{stands, automaton}
+use Rattle.reader.specs.Format.{within, anyByte, ifStands, present, bitMap, amount, conditions, modeRecord, moveRecord, header, table}
 use Rattle.reader.specs.Read.{accepted, rejected, judge, read}
 
 -- Every refusal of the parser has a number from 1 to 5.

@@ -31,11 +31,3 @@ row-every D P h i xs l s (more {xs = front} {ys = back} {a = first} {l = rest} r
 pub row-all : {A : Type 0} {R : ℕ → List ℕ → A → Type 0} (P : A → Type 0) → ((i : ℕ) (xs : List ℕ) (a : A) → R i xs a → P a) →
     (i : ℕ) (xs : List ℕ) (l : List A) → InRow R i xs l → (a : A) → List·Memᴰ a l → P a
 row-all P h i xs l k = row-every (λ b. Unit {0}) P (λ i xs a s. h i xs a) i xs l (λ b m. tt) k
-
--- What f gives of every element, every element of the mapped list has.
-pub map-all : {A B : Type 0} (f : A → B) (P : B → Type 0) (l : List A) → ((a : A) → List·Memᴰ a l → P (f a)) → (b : B) → List·Memᴰ b (map f l) → P b
-map-all f P [] h b m = absurd (List·Memᴰ·not-nil m)
-map-all f P (a ∷ l) h b m = elim (List·Memᴰ·cases-cons m) [
-  | inl e ↦ rw e (h a (List·Memᴰ.List·Memᴰ·head refl))
-  | inr q ↦ map-all f P l (λ c k. h c (List·Memᴰ.List·Memᴰ·tail k)) b q
-]

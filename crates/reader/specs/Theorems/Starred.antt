@@ -21,9 +21,9 @@ use Rattle.semantics.specs.Regions.Compare.{and-true-iff}
 use Rattle.semantics.specs.Corners.Number.{sameList-eq}
 use Rattle.semantics.specs.Answers.Computed.{computed, computed-answer}
 use Rattle.reader.specs.Parser.{inOrder}
-use Rattle.reader.specs.Fields.{Fields}
+use Rattle.table.specs.Fields.{Fields}
 use Rattle.reader.specs.Format.{within as byteWithin, bitMap, amount, conditions, modeRecord, moveRecord, header, table}
-use Rattle.reader.specs.Meaning.{automaton}
+use Rattle.table.specs.Meaning.{automaton}
 use Rattle.reader.specs.Read.{Judgement, accepted, rejected, read}
 use Rattle.reader.specs.Theorems.Proper.{accepted-proper}
 

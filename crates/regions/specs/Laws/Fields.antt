@@ -11,7 +11,7 @@ use Rattle.semantics.specs.Regions.Lengths.{prices-top}
 use Rattle.semantics.specs.Regions.Groups.{groups-few, groups-fewer, top-pos}
 use Rattle.regions.specs.declared.Region.{Region}
 use Rattle.regions.specs.Held.{mostTimers, mostCorners, pad, pack, view, Valid}
-use Rattle.reader.specs.Theorems.Access.{getD-pad}
+use Rattle.table.specs.Theorems.Access.{getD-pad}
 
 -- The struct of a region, by its fields.
 pub packed :

@@ -11,8 +11,8 @@ use Rattle.semantics.specs.Automaton.{timers}
 use Rattle.semantics.specs.NodeCount.{cornerCount, factor, cellCount, nodeCount}
 use Rattle.semantics.specs.Nodes.Node.{cellNumber, cellAt}
 use Rattle.semantics.specs.Nodes.Cells.{cellAt-length}
-use Rattle.reader.specs.Held.{automatonOf, IsTable}
-use Rattle.reader.specs.Theorems.Access.{getD-pad, getD-all}
+use Rattle.table.specs.Held.{automatonOf, IsTable}
+use Rattle.table.specs.Theorems.Access.{getD-pad, getD-all}
 pub use Rattle.corners.specs.Laws.Corners.{corners-few}
 use Rattle.regions.specs.Held.{mostTimers, pad}
 use Rattle.regions.specs.Nodes.{mostCeiling, CeilingsFew, Padded}
@@ -59,7 +59,7 @@ module _ (n : ℕ) (ceilings : List ℕ) (p : Padded n ceilings) where
       ap (λ (l : List ℕ). cellAt l i) p ∙ at-behind (take n ceilings) (mostTimers - length (take n ceilings)) i
       ∙ ap (λ (k : ℕ). cellAt (take n ceilings) i ++ replicate (mostTimers - k) 0) (sym (cellAt-length (take n ceilings) i))
 
--- The ceilings of a table, as `reader::table::ceilings` gives them.
+-- The ceilings of a table, as `table::ceilings` gives them.
 module _ (t : List ℕ) (h : IsTable t) where
   pub table-ceilings : take (timers (automatonOf t)) (pad mostTimers (automatonOf t .ceilings)) ≡ automatonOf t .ceilings
   table-ceilings = take-append-seam (automatonOf t .ceilings) (replicate (mostTimers - timers (automatonOf t)) 0)

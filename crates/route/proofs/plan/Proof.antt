@@ -4,8 +4,8 @@ use mathlib.Core.Path.{_∙_}
 use Prim.Native.Nat.{ℕ, _<_}
 use native.Mathlib.Omega.{arith}
 use lib.ListN.{getD}
-use Rattle.reader.specs.Held.{IsTable}
-use Rattle.reader.specs.Theorems.Holding.{accepted-table}
+use Rattle.table.specs.Held.{IsTable}
+use Rattle.reader.specs.Theorems.Accepted.{accepted-table}
 use Rattle.route.proofs.Planning.{outcome-keeps, planned-refused, planned-accepted}
 use Rattle.route.proofs.plan.Statement.{statement}
 use Rattle.route.proofs.plan.Tie as tie

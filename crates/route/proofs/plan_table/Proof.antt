@@ -2,7 +2,7 @@
 use borrow.Author.Needs.{needs}
 use mathlib.Core.Path.{_≡_, ap, sym, _∙_}
 use Prim.Native.Nat.{ℕ}
-use Rattle.reader.specs.Held.{automatonOf}
+use Rattle.table.specs.Held.{automatonOf}
 use Rattle.search.specs.Outcome.{searched}
 use Rattle.route.proofs.Planning.{found-searched, table-refused, table-searched}
 use Rattle.route.proofs.plan_table.Statement.{statement}

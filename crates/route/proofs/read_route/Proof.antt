@@ -4,7 +4,7 @@ use borrow.Author.Needs.{needs}
 use mathlib.Core.Path.{subst₂}
 use Prim.Native.Nat.{ℕ}
 use lib.ListN.{length}
-use Rattle.reader.specs.Held.{automatonOf}
+use Rattle.table.specs.Held.{automatonOf}
 use Rattle.near.specs.Near.{IsBest}
 use Rattle.route.proofs.Answering.{best-room, read-none, read-short, walk-ready, read-written}
 use Rattle.route.proofs.read_route.Statement.{statement}

@@ -4,7 +4,7 @@ use native.Mathlib.Omega.{arith}
 use denote.Ref.{now}
 use lib.ListN.{replicate}
 use Rattle.semantics.specs.Regions.Lists.{replicate-zero}
-use Rattle.reader.specs.Theorems.Access.{table-length}
+use Rattle.table.specs.Theorems.Access.{table-length}
 use Rattle.rules.proofs.Ordering.{modes-few, moves-few}
 use Rattle.rules.proofs.Whole.{is-rules}
 use borrow.Author.Needs.{needs}

@@ -19,8 +19,8 @@ use Rattle.semantics.specs.Automata.Proper.{OnTimers}
 use Rattle.semantics.specs.Corners.Lists.{mem-getD}
 use Rattle.semantics.specs.Regions.Compare.{and-true-iff}
 use Rattle.semantics.specs.Regions.Windows.{half, free, lowest, above, meets-window, InWindows, AreWindows, windows-none}
-use Rattle.reader.specs.Held.{automatonOf, IsTable}
-use Rattle.reader.specs.Theorems.Access.{table-proper, target-below, timer-count, counts}
+use Rattle.table.specs.Held.{automatonOf, IsTable}
+use Rattle.table.specs.Theorems.Access.{table-proper, target-below, timer-count, counts}
 use Rattle.rules.specs.Rules.{lowOf, highOf, joinedLow, joinedHigh, lowAt, highAt, InRow, targetConditions, IsRow, IsRules}
 
 -- One condition more narrows the window of its timer, and no other.

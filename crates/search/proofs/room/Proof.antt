@@ -5,7 +5,7 @@ use Prim.Native.Nat.{_≤_}
 use native.Mathlib.Omega.{arith}
 use Rattle.semantics.specs.NodeCount.{nodeCount}
 use Rattle.regions.specs.Nodes.{mostNodes}
-use Rattle.reader.specs.Held.{automatonOf}
+use Rattle.table.specs.Held.{automatonOf}
 use Rattle.search.specs.Laws.Answers.{count-few, count-many, answer-many, answer-short, answer-nodes}
 use Rattle.search.proofs.room.Statement.{statement}
 use Rattle.search.proofs.room.Tie as tie

@@ -2,7 +2,7 @@
 use borrow.Author.Needs.{needs}
 use mathlib.Core.Path.{sym, _∙_}
 use lib.ListN.{length}
-use Rattle.reader.specs.Held.{automatonOf}
+use Rattle.table.specs.Held.{automatonOf}
 use Rattle.search.specs.Laws.Answers.{Fits, answer-fits, searched-refused, searched-nodes}
 use Rattle.search.proofs.Seeding.{seeded-kept}
 use Rattle.search.proofs.Searching.{Searching, seeding, finding, keeping, near-found}

@@ -28,9 +28,9 @@ use Rattle.semantics.specs.Paths.Near.{BestTarget, words-near}
 use Rattle.semantics.specs.Answers.Graph.{graph-nodes, graph-closed, graph-weights}
 use Rattle.semantics.specs.Answers.Modes.{graph-goal, graph-block}
 use Rattle.semantics.specs.Answers.Walk.{NearCosts}
-use Rattle.reader.specs.Fields.{mostPrice}
-use Rattle.reader.specs.Held.{automatonOf, IsTable}
-use Rattle.reader.specs.Theorems.Access.{table-proper, amounts-within}
+use Rattle.table.specs.Fields.{mostPrice}
+use Rattle.table.specs.Held.{automatonOf, IsTable}
+use Rattle.table.specs.Theorems.Access.{table-proper, amounts-within}
 use Rattle.regions.specs.Nodes.{mostNodes}
 use Rattle.space.specs.Space.{graphOf, startOf}
 use Rattle.space.specs.Laws.Shares.{share, share-quotient, shared-out, share-below, nodes-shared, some-modes, start-below, few-modes}

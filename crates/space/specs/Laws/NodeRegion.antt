@@ -10,7 +10,7 @@ use Rattle.semantics.specs.Region.{PricedRegion, top}
 use Rattle.semantics.specs.Nodes.Node.{nodeAt}
 use Rattle.semantics.specs.Nodes.Number.{nodeAt-node}
 use Rattle.semantics.specs.Corners.Lists.{getD-countFrom}
-use Rattle.reader.specs.Held.{automatonOf, IsTable}
+use Rattle.table.specs.Held.{automatonOf, IsTable}
 use Rattle.regions.specs.declared.nodes.NodeRegion.{NodeRegion}
 use Rattle.regions.specs.Held.{mostTimers, view}
 use Rattle.regions.specs.Nodes.{mostNodes, CeilingsFew, Padded, nodeRegion, packNodeRegion}

@@ -12,8 +12,8 @@ use Rattle.semantics.specs.NodeCount.{cornerCount, cellCount, nodeCount}
 use Rattle.semantics.specs.Chain.{begin}
 use Rattle.semantics.specs.Bounds.Reached.{reached-begin}
 use Rattle.semantics.specs.Answers.Places.{IsPlace, reached-place, number-below}
-use Rattle.reader.specs.Held.{automatonOf, IsTable}
-use Rattle.reader.specs.Theorems.Access.{table-proper, counts, mode-count, timer-count}
+use Rattle.table.specs.Held.{automatonOf, IsTable}
+use Rattle.table.specs.Theorems.Access.{table-proper, counts, mode-count, timer-count}
 use Rattle.rules.specs.Rules.{IsRules}
 use Rattle.regions.specs.Held.{mostTimers}
 use Rattle.regions.specs.Nodes.{mostModes, mostNodes}

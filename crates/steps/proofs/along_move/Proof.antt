@@ -4,7 +4,7 @@ use Prim.Native.Nat.{_+_, _*_, _%_, _<_}
 use native.Mathlib.Omega.{arith}
 use borrow.Author.Needs.{needs}
 use denote.Ref.{now}
-use Rattle.reader.specs.Theorems.Access.{target-below}
+use Rattle.table.specs.Theorems.Access.{target-below}
 use Rattle.space.specs.Laws.Shares.{few-modes, block-within}
 use Rattle.steps.proofs.LeadingMoves.{along-few, led-move-ready, along-tried}
 use Rattle.steps.proofs.along_move.Statement.{statement}

@@ -7,7 +7,7 @@ use native.Mathlib.Omega.{arith}
 use denote.Ref.{now}
 use lib.ListN.{length}
 use Rattle.semantics.specs.Automaton.{moveAt}
-use Rattle.reader.specs.Held.{automatonOf}
+use Rattle.table.specs.Held.{automatonOf}
 use Rattle.space.specs.Laws.Shares.{few-modes}
 use Rattle.space.proofs.MovesFrom.{Since, since-first, since-after, since-done, first-begins, first-ready, next-open, first-after, next-rises}
 use Rattle.steps.specs.Leading.{FromMode}

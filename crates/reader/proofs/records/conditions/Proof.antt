@@ -4,7 +4,8 @@ use mathlib.Core.Path.{_≡_, refl}
 use native.Mathlib.Omega.{arith}
 use borrow.Author.Needs.{needs}
 use Rattle.reader.specs.Parser.{Parser}
-use Rattle.reader.specs.Format.{stands, ifStands, within, conditions}
+use Rattle.table.specs.Meaning.{stands}
+use Rattle.reader.specs.Format.{ifStands, within, conditions}
 use Rattle.reader.specs.Step.{gives, Wrote}
 use Rattle.reader.proofs.Writing.{wrote-none, wrote-byte}
 use Rattle.reader.proofs.Collecting.{Gathered, gathered-none, gathered-more, gathered-refused, gathered-all}

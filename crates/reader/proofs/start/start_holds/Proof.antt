@@ -9,7 +9,7 @@ use borrow.Author.Tests.{not-true, not-false}
 use lib.ListN.{length, length-drop, getD, take, drop}
 use lib.Seq.{getD-drop}
 use Rattle.semantics.specs.Condition.{holdAtZero}
-use Rattle.reader.specs.Meaning.{conditionsFrom}
+use Rattle.table.specs.Meaning.{conditionsFrom}
 use Rattle.reader.proofs.Zero.{zeroTest, every, zero-every, zero-one, every-more, every-fails}
 use Rattle.reader.proofs.start.start_holds.Statement.{statement}
 use Rattle.reader.proofs.start.start_holds.Tie as tie

@@ -4,8 +4,8 @@ use mathlib.Core.Path.{sym, subst}
 use Prim.Native.Nat.{ℕ, _<_}
 use native.Mathlib.Omega.{arith}
 use lib.ListN.{length}
-use Rattle.reader.specs.Held.{automatonOf, IsTable}
-use Rattle.reader.specs.Theorems.Access.{target-below}
+use Rattle.table.specs.Held.{automatonOf, IsTable}
+use Rattle.table.specs.Theorems.Access.{target-below}
 use Rattle.region_cases.specs.Kept.{Leads}
 use Rattle.region_cases.proofs.Steps.{move-few, fewer-steps, two-operations, operation-ready, second-ready}
 use Rattle.region_cases.proofs.places.moved.Statement.{statement}

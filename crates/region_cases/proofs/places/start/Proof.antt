@@ -3,7 +3,7 @@
 use mathlib.Core.Path.{sym, subst, _∙_}
 use native.Mathlib.Omega.{arith}
 use lib.Dec.{lit<}
-use Rattle.reader.specs.Theorems.Access.{counts, mode-count, timer-count}
+use Rattle.table.specs.Theorems.Access.{counts, mode-count, timer-count}
 use Rattle.regions.specs.Held.{PriceRoom}
 use Rattle.regions.specs.Laws.Chain.{start-gives}
 use Rattle.regions.specs.Laws.Room.{start-price-room}

@@ -4,7 +4,7 @@ use mathlib.Core.Path.{ap₂, _∙_}
 use Prim.Native.Nat.{ℕ, _/_, _%_}
 use borrow.Author.Needs.{needs}
 use Rattle.semantics.specs.Region.{meetsAt, meets}
-use Rattle.reader.specs.Meaning.{comparisonOf}
+use Rattle.table.specs.Meaning.{comparisonOf}
 use Rattle.regions.specs.Held.{view}
 use Rattle.regions.specs.Laws.Fields.{holds, whole-at, group-at}
 use Rattle.regions.proofs.Region.meets.Statement.{statement}

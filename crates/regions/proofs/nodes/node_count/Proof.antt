@@ -9,8 +9,8 @@ use borrow.Author.Tests.{le-leb, lt-leb}
 use lib.ListN.{length}
 use Rattle.semantics.specs.Automaton.{timers}
 use Rattle.semantics.specs.NodeCount.{nodeCount, cellCount, cornerCount}
-use Rattle.reader.specs.Held.{automatonOf, IsTable}
-use Rattle.reader.specs.Theorems.Access.{counts, mode-count, timer-count}
+use Rattle.table.specs.Held.{automatonOf, IsTable}
+use Rattle.table.specs.Theorems.Access.{counts, mode-count, timer-count}
 use Rattle.regions.specs.Held.{mostTimers, pad}
 use Rattle.regions.specs.Nodes.{mostNodes}
 use Rattle.regions.specs.Laws.Nodes.{table-few, table-nodes}

@@ -4,7 +4,7 @@ use Prim.Native.Nat.{_+_, _-_, _≤_, _<_}
 use native.Mathlib.Omega.{arith}
 use denote.Ref.{now}
 use lib.ListN.{length}
-use Rattle.reader.specs.Held.{automatonOf}
+use Rattle.table.specs.Held.{automatonOf}
 use Rattle.rules.specs.Making.{OrderedFrom}
 use Rattle.rules.proofs.Ordering.{moves-few, source-few, ordered-none, ordered-more}
 use Rattle.rules.proofs.order.order.Statement.{statement}

@@ -5,7 +5,7 @@ use Prim.Native.Nat.{ℕ, _+_, _*_, _-_, _≤_}
 use borrow.Author.Needs.{needs}
 use native.Mathlib.Omega.{arith}
 use denote.Ref.{now}
-use Rattle.reader.specs.Meaning.{conditionsFrom}
+use Rattle.table.specs.Meaning.{conditionsFrom}
 use Rattle.rules.specs.Making.{rowOf, conditionBytes, FilledRows}
 use Rattle.rules.proofs.Filling.{filled-none, filled-more}
 use Rattle.rules.proofs.rows.fill.Statement.{statement}

@@ -5,8 +5,8 @@ use borrow.Author.Needs.{needs}
 use native.Mathlib.Omega.{arith}
 use denote.Ref.{now}
 use lib.ListN.{length}
-use Rattle.reader.specs.Held.{automatonOf}
-use Rattle.reader.specs.Theorems.Access.{target-below}
+use Rattle.table.specs.Held.{automatonOf}
+use Rattle.table.specs.Theorems.Access.{target-below}
 use Rattle.rules.specs.Making.{JoinedRows}
 use Rattle.rules.proofs.Ordering.{modes-few, moves-few}
 use Rattle.rules.proofs.Joining.{move-resets, rows-none, rows-more}

@@ -5,7 +5,7 @@ use Prim.Native.Nat.{_-_, _≤_, _<_}
 use borrow.Author.Needs.{needs}
 use native.Mathlib.Omega.{arith}
 use lib.ListN.{length, take}
-use Rattle.reader.specs.Meaning.{conditionsFrom}
+use Rattle.table.specs.Meaning.{conditionsFrom}
 use Rattle.rules.specs.Making.{rowOf}
 use Rattle.rules.proofs.Narrowing.{row-none, row-some, row-all}
 use Rattle.rules.proofs.windows.windows.Statement.{statement}

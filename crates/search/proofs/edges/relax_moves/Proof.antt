@@ -4,8 +4,8 @@ use mathlib.Core.Path.{_≡_}
 use Prim.Native.Nat.{_+_, _*_, _-_, _<_}
 use native.Mathlib.Omega.{arith}
 use denote.Ref.{now}
-use Rattle.reader.specs.Held.{automatonOf}
-use Rattle.reader.specs.Theorems.Access.{target-below, price-within}
+use Rattle.table.specs.Held.{automatonOf}
+use Rattle.table.specs.Theorems.Access.{target-below, price-within}
 use Rattle.regions.specs.Held.{view}
 use Rattle.rules.specs.Rules.{FirstFrom}
 use Rattle.space.specs.Moves.{OpenMove, OpenFrom}

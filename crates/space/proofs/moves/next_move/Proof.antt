@@ -7,7 +7,7 @@ use native.Mathlib.Omega.{arith}
 use borrow.Author.Tests.{not-true, not-false}
 use denote.Ref.{now}
 use lib.ListN.{length}
-use Rattle.reader.specs.Held.{automatonOf}
+use Rattle.table.specs.Held.{automatonOf}
 use Rattle.rules.proofs.TimerTests.{InUpTo, in-more}
 use Rattle.space.specs.Moves.{Open, NextFrom}
 use Rattle.space.proofs.OpenMoves.{Passing, passing-none, passing-more, passing-open, passing-all, shuts, now-open}

@@ -1,5 +1,6 @@
 // The priority queue of a search in Dijkstra's order: a tournament of the nodes that are pending, kept in the spare halves of its words.
 // Node v has its charge at word 2v and, in word 2v + 1, its steps in the low half; the high half of word 2x + 1 is slot x of the tournament.
+// Nodes and places are counted in 32 bits here: the unit's core halves and compares no more at once.
 ghost use mathlib.Core.Path.{_≡_};
 ghost use Prim.Native.Nat.{suc, _+_, _*_, _%_, _≤_, _<_};
 ghost use lib.ListN.{length};
@@ -9,7 +10,7 @@ ghost use Rattle.queue.specs.Queue.{lows, slotAt, players, QueueRoom, Re
 ghost use Rattle.queue.specs.Playing.{keyIn, Seat, Told, put, Place, GoneUp};
 
 // Nobody: what a slot holds if no node below it is pending.
-const NONE: usize = 0xFFFF;
+const NONE: u32 = 0xFFFF;
 
 // The charge of an unreached node.
 const INFINITY: u32 = 0xFFFF_FFFF;
@@ -38,28 +39,30 @@ pub fn steps_of(words: &[u32], node: usize) -> u32
 }
 
 // What a node is compared by.
-fn key(words: &[u32], node: usize) -> u64
+fn key(words: &[u32], node: u32) -> u64
     requires { ⌜ (node < none) × (2 * node + 1 < length (now words)) ⌝ }
     ensures { λ r. ⌜ r ≡ keyIn (now (words .entry)) node ⌝ }
 {
-    let charge = charge_of(words, node) as u64;
-    let steps = steps_of(words, node) as u64;
+    let at = node as usize;
+    let charge = charge_of(words, at) as u64;
+    let steps = steps_of(words, at) as u64;
     (charge * 65536 + steps) * 65536 + node as u64
 }
 
 // A slot of the tournament.
-fn slot(words: &[u32], place: usize) -> usize
+fn slot(words: &[u32], place: u32) -> u32
     requires { ⌜ 2 * place + 1 < length (now words) ⌝ }
     ensures { λ r. ⌜ r ≡ slotAt (now (words .entry)) place ⌝ }
 {
-    (words[2 * place + 1] / HALF) as usize
+    words[2 * place as usize + 1] / HALF
 }
 
-fn set_slot(words: &mut [u32], place: usize, node: usize)
+fn set_slot(words: &mut [u32], place: u32, node: u32)
     requires { ⌜ (2 * place + 1 < length (now words)) × (node ≤ none) ⌝ }
     ensures { λ _. ⌜ now (words .exit) ≡ put (now (words .entry)) place node ⌝ }
 {
-    words[2 * place + 1] = node as u32 * HALF + words[2 * place + 1] % HALF;
+    let at = 2 * place as usize + 1;
+    words[at] = node * HALF + words[at] % HALF;
 }
 
 // The first of the pending nodes, or NONE.
@@ -67,11 +70,11 @@ pub fn first(words: &[u32]) -> usize
     requires { ⌜ 3 < length (now words) ⌝ }
     ensures { λ r. ⌜ r ≡ slotAt (now (words .entry)) 1 ⌝ }
 {
-    slot(words, 1)
+    slot(words, 1) as usize
 }
 
 // Whether who is in a slot comes before this key; nobody does not.
-fn ahead(words: &[u32], node: usize, own: u64) -> bool
+fn ahead(words: &[u32], node: u32, own: u64) -> bool
     requires { ⌜ Seat (now words) node ⌝ }
     ensures { λ r. ⌜ Told (now (words .entry)) node own r ⌝ }
 {
@@ -82,7 +85,7 @@ fn ahead(words: &[u32], node: usize, own: u64) -> bool
 }
 
 // The winner at a place, if all keys up to `settled` are settled.
-fn winner(words: &[u32], nodes: usize, place: usize, settled: u64) -> usize
+fn winner(words: &[u32], nodes: u32, place: u32, settled: u64) -> u32
     requires { ⌜ Place nodes place (now words) ⌝ }
     ensures { λ r. ⌜ r ≡ winner nodes (players (suc settled) (lows nodes (now (words .entry)))) (slotAt (now (words .entry))) place ⌝ }
 {
@@ -90,7 +93,7 @@ fn winner(words: &[u32], nodes: usize, place: usize, settled: u64) -> usize
         return slot(words, place);
     }
     let node = place - nodes;
-    if charge_of(words, node) == INFINITY {
+    if charge_of(words, node as usize) == INFINITY {
         return NONE;
     }
     if settled < key(words, node) {
@@ -101,7 +104,7 @@ fn winner(words: &[u32], nodes: usize, place: usize, settled: u64) -> usize
 }
 
 // A node goes up from its leaf as far as it wins.
-fn raise(words: &mut [u32], nodes: usize, node: usize)
+fn raise(words: &mut [u32], nodes: u32, node: u32)
     requires { ⌜ QueueRoom nodes (now words) × (node < nodes) ⌝ }
     ensures { λ _. ⌜ GoneUp nodes node (now (words .entry)) (now (words .exit)) ⌝ }
 {
@@ -124,7 +127,7 @@ pub fn lower(words: &mut [u32], nodes: usize, node: usize, charge: u32, steps: u
     let high = words[2 * node + 1] / HALF;
     words[2 * node] = charge;
     words[2 * node + 1] = high * HALF + steps;
-    raise(words, nodes, node);
+    raise(words, nodes as u32, node as u32);
 }
 
 // A node is offered a cost, and gets it if it is less than its own.
@@ -149,14 +152,14 @@ pub fn settle(words: &mut [u32], nodes: usize, node: usize)
     requires { ⌜ SettleReady nodes node (now words) ⌝ }
     ensures { λ _. ⌜ SettleDone nodes node (now (words .entry)) (now (words .exit)) ⌝ }
 {
-    let settled = key(words, node);
-    let mut place = nodes + node;
+    let settled = key(words, node as u32);
+    let mut place = nodes as u32 + node as u32;
     let mut best = NONE;
     let mut least = NO_KEY;
     while 1 < place {
         let up = place / 2;
         // The two places below `up` are 2 × up and 2 × up + 1.
-        let other = winner(words, nodes, 4 * up + 1 - place, settled);
+        let other = winner(words, nodes as u32, 4 * up + 1 - place, settled);
         if ahead(words, other, least) {
             best = other;
             least = key(words, other);

@@ -50,6 +50,12 @@ mul-words-5 c = search needs
 slice-write-words-2 : tie.Need-slice-write-words-2
 slice-write-words-2 c = simp length-set (omega (arith, c .before .before .pre .relax .there, c .before .before .pre .relax .queue .words))
 
+cast-raise : tie.Need-cast-raise
+cast-raise c = search needs
+
+cast-raise-2 : tie.Need-cast-raise-2
+cast-raise-2 c = search needs
+
 raise-requires : tie.Need-raise-requires
 raise-requires c κs =
     let s = c .before .before .before in
@@ -86,6 +92,8 @@ lower-spec =
     add-words-2
     mul-words-5
     slice-write-words-2
+    cast-raise
+    cast-raise-2
     raise-requires
     same-length
     returns)

@@ -3,8 +3,11 @@ use borrow.Author.Needs.{needs}
 use Rattle.queue.proofs.set_slot.Statement.{statement}
 use Rattle.queue.proofs.set_slot.Tie as tie
 
-cast-words : tie.Need-cast-words
-cast-words c = search needs
+mul-at : tie.Need-mul-at
+mul-at c = search needs
+
+add-at : tie.Need-add-at
+add-at c = search needs
 
 mul-words : tie.Need-mul-words
 mul-words c = search needs
@@ -12,26 +15,14 @@ mul-words c = search needs
 mul-words-2 : tie.Need-mul-words-2
 mul-words-2 c = search needs
 
+slice-read-words : tie.Need-slice-read-words
+slice-read-words c = search needs
+
 add-words : tie.Need-add-words
 add-words c = search needs
 
 mul-words-3 : tie.Need-mul-words-3
 mul-words-3 c = search needs
-
-slice-read-words : tie.Need-slice-read-words
-slice-read-words c = search needs
-
-add-words-2 : tie.Need-add-words-2
-add-words-2 c = search needs
-
-mul-words-4 : tie.Need-mul-words-4
-mul-words-4 c = search needs
-
-add-words-3 : tie.Need-add-words-3
-add-words-3 c = search needs
-
-mul-words-5 : tie.Need-mul-words-5
-mul-words-5 c = search needs
 
 slice-write-words : tie.Need-slice-write-words
 slice-write-words c = search needs
@@ -46,16 +37,13 @@ pub set-slot-spec : {M : Type 1} → statement M
 set-slot-spec =
     tie.close
     (tie.spec
-    cast-words
+    mul-at
+    add-at
     mul-words
     mul-words-2
+    slice-read-words
     add-words
     mul-words-3
-    slice-read-words
-    add-words-2
-    mul-words-4
-    add-words-3
-    mul-words-5
     slice-write-words
     same-length
     returns)

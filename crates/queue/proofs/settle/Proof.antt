@@ -29,10 +29,19 @@ outside c b =
     let r = loop .inv .1 in
     put-puts n (loop .words) (r .words) (loop .place / 2) b (omega (arith, r .high)) .others 0 (omega arith) ∙ loop .inv .2
 
+cast-key : tie.Need-cast-key Inv-loop μ-loop
+cast-key c = omega arith
+
 key-requires : tie.Need-key-requires Inv-loop μ-loop
 key-requires c κs =
     let s = c .before .before in
     (omega (arith, s .pre .there, s .pre .queue .words), omega (arith, s .pre .there, s .pre .queue .words))
+
+cast-place : tie.Need-cast-place Inv-loop μ-loop
+cast-place c = omega arith
+
+cast-place-2 : tie.Need-cast-place-2 Inv-loop μ-loop
+cast-place-2 c = omega arith
 
 add-place : tie.Need-add-place Inv-loop μ-loop
 add-place c = omega arith
@@ -45,6 +54,9 @@ loop-holds c =
     let e : c .key .result ≡ key (lows n ws) (s .args .node) =
     c .key .ensures ∙ sym (key-lows n ws (lows n ws) (s .args .node) refl (s .pre .there)) in
     (e, replayed-start n (s .args .node) (c .key .result) ws (s .pre) e, refl)
+
+cast-winner : tie.Need-cast-winner Inv-loop μ-loop
+cast-winner c = omega arith
 
 mul-winner : tie.Need-mul-winner Inv-loop μ-loop
 mul-winner c = omega arith
@@ -143,9 +155,13 @@ settle-spec =
     (tie.spec
     Inv-loop
     μ-loop
+    cast-key
     key-requires
+    cast-place
+    cast-place-2
     add-place
     loop-holds
+    cast-winner
     mul-winner
     add-winner
     sub-winner

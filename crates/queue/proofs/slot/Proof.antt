@@ -1,6 +1,4 @@
 -- `slot` meets its contract. Assumes nothing.
-use Prim.Native.Nat.{_+_, _*_}
-use native.Mathlib.Omega.{arith}
 use borrow.Author.Needs.{needs}
 use Rattle.queue.proofs.slot.Statement.{statement}
 use Rattle.queue.proofs.slot.Tie as tie
@@ -17,13 +15,10 @@ mul-result-2 c = search needs
 shared-slice-read-result : tie.Need-shared-slice-read-result
 shared-slice-read-result c = search needs
 
-cast-result : tie.Need-cast-result
-cast-result c = omega (arith, c .shared-slice-known .given (2 * c .before .args .place + 1))
-
 returns : tie.Need-returns
 returns c = search needs
 
 pub slot-spec : {M : Type 1} → statement M
 slot-spec =
     tie.close
-    (tie.spec mul-result add-result mul-result-2 shared-slice-read-result cast-result returns)
+    (tie.spec mul-result add-result mul-result-2 shared-slice-read-result returns)

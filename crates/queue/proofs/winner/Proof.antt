@@ -16,6 +16,9 @@ returns c =
     let a = s .args in
     c .slot .ensures ∙ won-slot (a .nodes) (now (a .words)) (s .pre .words) (a .settled) (a .place) (c .before .if1 .taken)
 
+cast-charge-of : tie.Need-cast-charge-of
+cast-charge-of c = search needs
+
 charge-of-requires : tie.Need-charge-of-requires
 charge-of-requires c κs = search needs
 
@@ -47,4 +50,4 @@ returns-4 c =
 pub winner-spec : {M : Type 1} → statement M
 winner-spec =
     tie.close
-    (tie.spec slot-requires returns charge-of-requires returns-2 key-requires returns-3 returns-4)
+    (tie.spec slot-requires returns cast-charge-of charge-of-requires returns-2 key-requires returns-3 returns-4)

@@ -45,32 +45,32 @@ last-row n k few h = omega (arith, none-below n k h)
 pub counts-right : (n : ℕ) → n ≤ 3 → getD (1 ∷ 3 ∷ 13 ∷ 75 ∷ []) n 0 ≡ cornerCount n 1
 counts-right = up-to-three (λ n. getD (1 ∷ 3 ∷ 13 ∷ 75 ∷ []) n 0 ≡ cornerCount n 1) refl refl refl refl
 
--- A row is right if its eight entries are.
+-- A row is right if its four entries are.
 unfoldable pub rowTest : (ℕ → ℕ) → ℕ → ℕ → Bool
-rowTest f row r = everyFrom (λ column place. eqb (entryOf r column) (f place)) 0 (countFrom (8 * row) 8)
+rowTest f row r = everyFrom (λ column place. eqb (entryOf r column) (f place)) 0 (countFrom (4 * row) 4)
 
 pub row-is : (f : ℕ → ℕ) {row k r : ℕ} → row ≡ k → rowTest f k r ≡ true → IsRow f row r
 unfolding rowTest
 row-is f {row} {k} {r} e t = record {
   entry = λ column h.
-      let at = eqb-true _ _ (every-at (λ c place. eqb (entryOf r c) (f place)) (countFrom (8 * k) 8) t column 0 (rw (length-countFrom (8 * k) 8) h)) in
-      rw (e, ← getD-countFrom (8 * k) 8 column 0 h) at;
+      let at = eqb-true _ _ (every-at (λ c place. eqb (entryOf r c) (f place)) (countFrom (4 * k) 4) t column 0 (rw (length-countFrom (4 * k) 4) h)) in
+      rw (e, ← getD-countFrom (4 * k) 4 column 0 h) at;
 }
 
-pub entry-is : (f : ℕ → ℕ) (place : ℕ) {r : ℕ} → IsRow f (place / 8) r → entryOf r (place % 8) ≡ f place
+pub entry-is : (f : ℕ → ℕ) (place : ℕ) {r : ℕ} → IsRow f (place / 4) r → entryOf r (place % 4) ≡ f place
 entry-is f place h =
-    let column : place % 8 < 8 = omega arith in
-    let back : 8 * (place / 8) + place % 8 ≡ place = omega arith in
-    h .entry (place % 8) column ∙ ap f back
+    let column : place % 4 < 4 = omega arith in
+    let back : 4 * (place / 4) + place % 4 ≡ place = omega arith in
+    h .entry (place % 4) column ∙ ap f back
 
 -- The code's table FIRST_PLACES.
 abbrev pub firstPlaces : List ℕ
-firstPlaces = 0 ∷ 0 ∷ 8 ∷ 24 ∷ []
+firstPlaces = 0 ∷ 0 ∷ 4 ∷ 20 ∷ []
 
 -- The place of a corner is in the table, and the entry there is the corner.
-pub place-in : (n : ℕ) → n ≤ 3 → (i : ℕ) → i < cornerCount n 1 → getD firstPlaces n 0 + i < 104
+pub place-in : (n : ℕ) → n ≤ 3 → (i : ℕ) → i < cornerCount n 1 → getD firstPlaces n 0 + i < 96
 place-in =
-    up-to-three (λ n. (i : ℕ) → i < cornerCount n 1 → getD firstPlaces n 0 + i < 104)
+    up-to-three (λ n. (i : ℕ) → i < cornerCount n 1 → getD firstPlaces n 0 + i < 96)
     (λ i h. let b : i < 1 = h in omega arith)
     (λ i h. let b : i < 3 = h in omega arith)
     (λ i h. let b : i < 13 = h in omega arith)
@@ -81,14 +81,14 @@ byte-is zero some few i there = absurd (omega arith)
 byte-is (suc zero) some few i there =
     let b : i < 3 = there in
     let e : 0 + i ≡ i = omega arith in
-    rw (e, lt-ltb i 8 (omega arith)) refl
+    rw (e, lt-ltb i 4 (omega arith)) refl
 byte-is (suc (suc zero)) some few i there =
     let b : i < 13 = there in
-    let f : 8 + i - 8 ≡ i = omega arith in
-    rw (le-ltb (8 + i) 8 (omega arith), lt-ltb (8 + i) 24 (omega arith), f) refl
+    let f : 4 + i - 4 ≡ i = omega arith in
+    rw (le-ltb (4 + i) 4 (omega arith), lt-ltb (4 + i) 20 (omega arith), f) refl
 byte-is (suc (suc (suc zero))) some few i there =
-    let f : 24 + i - 24 ≡ i = omega arith in
-    rw (le-ltb (24 + i) 8 (omega arith), le-ltb (24 + i) 24 (omega arith), f) refl
+    let f : 20 + i - 20 ≡ i = omega arith in
+    rw (le-ltb (20 + i) 4 (omega arith), le-ltb (20 + i) 20 (omega arith), f) refl
 byte-is (suc (suc (suc (suc n)))) some few i there = absurd (omega arith)
 
 -- What the code makes of a byte.

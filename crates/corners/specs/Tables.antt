@@ -1,4 +1,4 @@
--- What stands in the code's tables of the corners of a cell. A table is kept in rows: eight entries of a byte to a row, the first one in the lowest
+-- What stands in the code's tables of the corners of a cell. A table is kept in rows: four entries of a byte to a row, the first one in the lowest
 -- byte.
 -- Assumes nothing.
 use mathlib.Core.Path.{_≡_}
@@ -20,7 +20,7 @@ entryOf row column = row / 2 ^ (8 * column) % 256
 
 -- r is the row with this number of the table whose entry at each place is f of the place.
 pub record IsRow (f : ℕ → ℕ) (row r : ℕ) : Type 0 where
-  pub entry : (column : ℕ) → column < 8 → entryOf r column ≡ f (8 * row + column)
+  pub entry : (column : ℕ) → column < 4 → entryOf r column ≡ f (4 * row + column)
 
 -- The places of the first corners: sixteen for one timer, sixteen for two, and for three sixteen for each group of timer 2. Among the sixteen the
 -- groups of timers 0 and 1 are digits of base 4.
@@ -38,7 +38,7 @@ firstAt place = cornerNumber (timersAt place) (record { group = groupsAt place; 
 abbrev pub byteOf : Corner → ℕ
 byteOf c = 64 * c .index + 16 * getD (c .group) 0 0 + 4 * getD (c .group) 1 0 + getD (c .group) 2 0
 
--- The places of the corners: one row for one timer, two for two, and the others for three.
+-- The places of the corners: one row for one timer, four for two, and the others for three.
 abbrev pub cornerByte : ℕ → ℕ
 cornerByte place =
-    cond (ltb place 8) (byteOf (cornerAt 1 place)) (cond (ltb place 24) (byteOf (cornerAt 2 (place - 8))) (byteOf (cornerAt 3 (place - 24))))
+    cond (ltb place 4) (byteOf (cornerAt 1 place)) (cond (ltb place 20) (byteOf (cornerAt 2 (place - 4))) (byteOf (cornerAt 3 (place - 20))))

@@ -1,5 +1,5 @@
-// The constant tables of the corners of a cell. Two of them give a row of eight entries by a `match`, which the compiler keeps in read-only
-// memory; a constant array it writes anew onto the stack at each use.
+// The constant tables of the corners of a cell. Two of them give a row of four entries, a word of the unit's core, by a `match`, which the compiler
+// keeps in read-only memory; a constant array it writes anew onto the stack at each use.
 ghost use mathlib.Core.Path.{_≡_};
 ghost use Prim.Native.Nat.{_<_, _≤_, max};
 ghost use Rattle.semantics.specs.NodeCount.{cornerCount};
@@ -20,7 +20,7 @@ pub struct CornerAt {
 const CORNERS: [u8; 4] = [1, 3, 13, 75];
 
 // Where the corners begin in their table, by the number of timers.
-const FIRST_PLACES: [u8; 4] = [0, 0, 8, 24];
+const FIRST_PLACES: [u8; 4] = [0, 0, 4, 20];
 
 // "The corners of a cell number 3, 13 or 75 for one, two or three timers."
 pub fn corner_count(timers: usize) -> u32
@@ -41,7 +41,7 @@ pub fn first_corner(place: usize) -> u8
     requires { ⌜ place < 96 ⌝ }
     ensures { λ r. ⌜ r ≡ firstAt place ⌝ }
 {
-    entry(first_row(place / 8), place % 8)
+    entry(first_row(place / 4), place % 4)
 }
 
 // The corner with a number.
@@ -50,7 +50,7 @@ pub fn corner_at(timers: usize, number: usize) -> CornerAt
     ensures { λ r. ⌜ r ≡ packCorner (cornerAt timers number) ⌝ }
 {
     let place = FIRST_PLACES[timers] as usize + number;
-    let byte = entry(corner_row(place / 8), place % 8);
+    let byte = entry(corner_row(place / 4), place % 4);
     let a = byte / 16 % 4;
     let b = byte / 4 % 4;
     let c = byte % 4;
@@ -68,52 +68,75 @@ fn greatest(a: u8, b: u8) -> u8
 }
 
 // An entry of a row; the first one stands in the lowest byte.
-fn entry(row: u64, column: usize) -> u8
-    requires { ⌜ column < 8 ⌝ }
+fn entry(row: u32, column: usize) -> u8
+    requires { ⌜ column < 4 ⌝ }
     ensures { λ r. ⌜ r ≡ entryOf row column ⌝ }
 {
     ((row >> (8 * column)) % 256) as u8
 }
 
 // The numbers of the regions' first corners.
-fn first_row(row: usize) -> u64
-    requires { ⌜ row < 12 ⌝ }
+fn first_row(row: usize) -> u32
+    requires { ⌜ row < 24 ⌝ }
     ensures { λ r. ⌜ IsRow firstAt row r ⌝ }
 {
     match row {
-        0 => 0x0101_0101_0000_0000,
-        1 => 0x0303_0303_0303_0303,
-        2 => 0x0D07_0503_0D0D_0100,
-        3 => 0x0D0D_0D0D_0D0D_0A0D,
-        4 => 0x4B19_1403_4B4B_1200,
-        5 => 0x4B4B_4B4B_4B4B_1C4B,
-        6 => 0x4B39_1F07_4B16_0105,
-        7 => 0x4B47_4B4B_433C_240F,
-        8 => 0x3F21_270C_4B4B_094B,
-        9 => 0x4B4B_354B_4B4B_2A4B,
-        10 => 0x4B2D_4B4B_4B4B_4B4B,
-        _ => 0x4B4B_4B4B_4B4B_314B,
+        0 => 0x0000_0000,
+        1 => 0x0101_0101,
+        2 => 0x0303_0303,
+        3 => 0x0303_0303,
+        4 => 0x0D0D_0100,
+        5 => 0x0D07_0503,
+        6 => 0x0D0D_0A0D,
+        7 => 0x0D0D_0D0D,
+        8 => 0x4B4B_1200,
+        9 => 0x4B19_1403,
+        10 => 0x4B4B_1C4B,
+        11 => 0x4B4B_4B4B,
+        12 => 0x4B16_0105,
+        13 => 0x4B39_1F07,
+        14 => 0x433C_240F,
+        15 => 0x4B47_4B4B,
+        16 => 0x4B4B_094B,
+        17 => 0x3F21_270C,
+        18 => 0x4B4B_2A4B,
+        19 => 0x4B4B_354B,
+        20 => 0x4B4B_4B4B,
+        21 => 0x4B2D_4B4B,
+        22 => 0x4B4B_314B,
+        _ => 0x4B4B_4B4B,
     }
 }
 
 // The corners by their numbers.
-fn corner_row(row: usize) -> u64
-    requires { ⌜ row < 13 ⌝ }
+fn corner_row(row: usize) -> u32
+    requires { ⌜ row < 24 ⌝ }
     ensures { λ r. ⌜ IsRow cornerByte row r ⌝ }
 {
     match row {
-        0 => 0x0000_0000_0050_1000,
-        1 => 0x1854_1450_1044_0400,
-        2 => 0x0000_00A4_6424_9858,
-        3 => 0x1141_0150_1045_0500,
-        4 => 0x2192_5212_8646_0651,
-        5 => 0x4909_5414_4404_A161,
-        6 => 0x15A4_6424_9858_1889,
-        7 => 0x16A5_6525_9A5A_1A55,
-        8 => 0x9B5B_1BA6_6626_9656,
-        9 => 0xB676_36E7_A767_27DB,
-        10 => 0x1EA9_6929_9959_19F6,
-        11 => 0x39ED_AD6D_2DDE_9E5E,
-        _ => 0x0000_0000_00F9_B979,
+        0 => 0x0050_1000,
+        1 => 0x1044_0400,
+        2 => 0x1854_1450,
+        3 => 0x6424_9858,
+        4 => 0x0000_00A4,
+        5 => 0x1045_0500,
+        6 => 0x1141_0150,
+        7 => 0x8646_0651,
+        8 => 0x2192_5212,
+        9 => 0x4404_A161,
+        10 => 0x4909_5414,
+        11 => 0x9858_1889,
+        12 => 0x15A4_6424,
+        13 => 0x9A5A_1A55,
+        14 => 0x16A5_6525,
+        15 => 0x6626_9656,
+        16 => 0x9B5B_1BA6,
+        17 => 0xA767_27DB,
+        18 => 0xB676_36E7,
+        19 => 0x9959_19F6,
+        20 => 0x1EA9_6929,
+        21 => 0x2DDE_9E5E,
+        22 => 0x39ED_AD6D,
+        _ => 0x00F9_B979,
     }
 }

@@ -12,7 +12,7 @@ use Rattle.corners.proofs.tables.corner_at.Statement.{statement}
 use Rattle.corners.proofs.tables.corner_at.Tie as tie
 
 -- The place is in the table, and the byte there is the corner's.
-in-table : (c : tie.Start) → getD firstPlaces (c .args .timers) 0 + c .args .number < 104
+in-table : (c : tie.Start) → getD firstPlaces (c .args .timers) 0 + c .args .number < 96
 in-table c = place-in (c .args .timers) (c .pre .1) (c .args .number) (c .pre .2)
 
 byte : (c : tie.After-entry) → c .entry .result ≡ byteOf (cornerAt (c .before .before .args .timers) (c .before .before .args .number))

@@ -57,7 +57,51 @@ returns-12 c = row-is cornerByte (c .match .keys12) refl
 
 returns-13 : tie.Need-returns-13
 unfolding rowTest cornerAt
-returns-13 c = row-is cornerByte (last-row (c .before .args .row) 12 (c .before .pre) (c .match .rest)) refl
+returns-13 c = row-is cornerByte (c .match .keys13) refl
+
+returns-14 : tie.Need-returns-14
+unfolding rowTest cornerAt
+returns-14 c = row-is cornerByte (c .match .keys14) refl
+
+returns-15 : tie.Need-returns-15
+unfolding rowTest cornerAt
+returns-15 c = row-is cornerByte (c .match .keys15) refl
+
+returns-16 : tie.Need-returns-16
+unfolding rowTest cornerAt
+returns-16 c = row-is cornerByte (c .match .keys16) refl
+
+returns-17 : tie.Need-returns-17
+unfolding rowTest cornerAt
+returns-17 c = row-is cornerByte (c .match .keys17) refl
+
+returns-18 : tie.Need-returns-18
+unfolding rowTest cornerAt
+returns-18 c = row-is cornerByte (c .match .keys18) refl
+
+returns-19 : tie.Need-returns-19
+unfolding rowTest cornerAt
+returns-19 c = row-is cornerByte (c .match .keys19) refl
+
+returns-20 : tie.Need-returns-20
+unfolding rowTest cornerAt
+returns-20 c = row-is cornerByte (c .match .keys20) refl
+
+returns-21 : tie.Need-returns-21
+unfolding rowTest cornerAt
+returns-21 c = row-is cornerByte (c .match .keys21) refl
+
+returns-22 : tie.Need-returns-22
+unfolding rowTest cornerAt
+returns-22 c = row-is cornerByte (c .match .keys22) refl
+
+returns-23 : tie.Need-returns-23
+unfolding rowTest cornerAt
+returns-23 c = row-is cornerByte (c .match .keys23) refl
+
+returns-24 : tie.Need-returns-24
+unfolding rowTest cornerAt
+returns-24 c = row-is cornerByte (last-row (c .before .args .row) 23 (c .before .pre) (c .match .rest)) refl
 
 pub corner-row-spec : {M : Type 1} → statement M
 corner-row-spec =
@@ -75,4 +119,15 @@ corner-row-spec =
     returns-10
     returns-11
     returns-12
-    returns-13)
+    returns-13
+    returns-14
+    returns-15
+    returns-16
+    returns-17
+    returns-18
+    returns-19
+    returns-20
+    returns-21
+    returns-22
+    returns-23
+    returns-24)

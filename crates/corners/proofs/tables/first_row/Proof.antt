@@ -53,7 +53,55 @@ returns-11 c = row-is firstAt (c .match .keys11) refl
 
 returns-12 : tie.Need-returns-12
 unfolding rowTest cornerNumber
-returns-12 c = row-is firstAt (last-row (c .before .args .row) 11 (c .before .pre) (c .match .rest)) refl
+returns-12 c = row-is firstAt (c .match .keys12) refl
+
+returns-13 : tie.Need-returns-13
+unfolding rowTest cornerNumber
+returns-13 c = row-is firstAt (c .match .keys13) refl
+
+returns-14 : tie.Need-returns-14
+unfolding rowTest cornerNumber
+returns-14 c = row-is firstAt (c .match .keys14) refl
+
+returns-15 : tie.Need-returns-15
+unfolding rowTest cornerNumber
+returns-15 c = row-is firstAt (c .match .keys15) refl
+
+returns-16 : tie.Need-returns-16
+unfolding rowTest cornerNumber
+returns-16 c = row-is firstAt (c .match .keys16) refl
+
+returns-17 : tie.Need-returns-17
+unfolding rowTest cornerNumber
+returns-17 c = row-is firstAt (c .match .keys17) refl
+
+returns-18 : tie.Need-returns-18
+unfolding rowTest cornerNumber
+returns-18 c = row-is firstAt (c .match .keys18) refl
+
+returns-19 : tie.Need-returns-19
+unfolding rowTest cornerNumber
+returns-19 c = row-is firstAt (c .match .keys19) refl
+
+returns-20 : tie.Need-returns-20
+unfolding rowTest cornerNumber
+returns-20 c = row-is firstAt (c .match .keys20) refl
+
+returns-21 : tie.Need-returns-21
+unfolding rowTest cornerNumber
+returns-21 c = row-is firstAt (c .match .keys21) refl
+
+returns-22 : tie.Need-returns-22
+unfolding rowTest cornerNumber
+returns-22 c = row-is firstAt (c .match .keys22) refl
+
+returns-23 : tie.Need-returns-23
+unfolding rowTest cornerNumber
+returns-23 c = row-is firstAt (c .match .keys23) refl
+
+returns-24 : tie.Need-returns-24
+unfolding rowTest cornerNumber
+returns-24 c = row-is firstAt (last-row (c .before .args .row) 23 (c .before .pre) (c .match .rest)) refl
 
 pub first-row-spec : {M : Type 1} → statement M
 first-row-spec =
@@ -70,4 +118,16 @@ first-row-spec =
     returns-9
     returns-10
     returns-11
-    returns-12)
+    returns-12
+    returns-13
+    returns-14
+    returns-15
+    returns-16
+    returns-17
+    returns-18
+    returns-19
+    returns-20
+    returns-21
+    returns-22
+    returns-23
+    returns-24)

@@ -1,27 +1,27 @@
 -- The edges of moves from the node in hand, relaxed one after another along the moves of its mode.
 -- Assumes nothing.
-use mathlib.Core.Path.{_≡_, ap, ap₂, subst, _∙_}
+use mathlib.Core.Path.{_≡_, ap, subst, _∙_}
 use mathlib.Core.Logic.{_⊎_, inl, inr}
 use mathlib.Core.List.{List}
 use Prim.Native.Nat.{ℕ, _+_, _*_, _≤_, _<_}
 use native.Mathlib.Decide.{ℕ-discrete, decLt}
 use native.Mathlib.Omega.{arith}
 use Rattle.semantics.specs.Automaton.{moveAt}
-use Rattle.semantics.specs.Nodes.Node.{nodeOf, nodeNumber}
 use Rattle.semantics.specs.Corners.Edges.{resetAllCorner}
 use Rattle.semantics.specs.Graph.Path.{Edge, Leaves, infinity}
 use Rattle.semantics.specs.Answers.Moving.{movedTo, MoveEdge, edge-move, move-edge}
+use Rattle.table.specs.Meaning.{namedTimers}
 use Rattle.table.specs.Held.{automatonOf, fieldsOf, moveFieldsAt}
 use Rattle.regions.specs.Held.{view}
 use Rattle.rules.specs.Rules.{none}
 use Rattle.queue.specs.Queue.{RelaxReady, RelaxDone}
 use Rattle.space.specs.declared.Space.{Space}
 use Rattle.space.specs.Space.{graphOf, Setting, placeAt, IsCorner}
-use Rattle.space.specs.Images.{imageOf, ImageReady}
+use Rattle.space.specs.Images.{NodeImage}
 use Rattle.space.specs.Moves.{Open, OpenMove, OpenFrom}
 use Rattle.space.proofs.Settings.{halvesOf, corner-number, corner-leaves}
-use Rattle.space.proofs.Imaging.{image-number}
-use Rattle.space.proofs.MoveEdges.{moveEdge, open-edge, edge-open, edge-is, mode-number}
+use Rattle.space.proofs.Imaging.{move-image, image-number}
+use Rattle.space.proofs.MoveEdges.{moveEdge, open-edge, edge-open, edge-is, mode-block}
 use Rattle.search.specs.declared.edges.Source.{Source}
 use Rattle.search.specs.Exploring.{relaxes-none, relaxes-then}
 use Rattle.search.specs.Edges.{IsMove, nodeIn, Holding, Short, EdgesDone}
@@ -64,22 +64,16 @@ module _ {t rs : List ℕ} {s : Space} (set : Setting t rs s) (x : Source) (k : 
         (rw stand at (o .is-open some)) in
         rw (corner-number k (x .at .index) (k .inside)) at (move-edge (automatonOf t) goal (placeAt (x .at)) (k .place) (x .at .index) (k .inside) edge some m)
 
-    -- Its image, and its node.
-    module _ (byte : ℕ) (byte-is : byte ≡ moveFieldsAt (fieldsOf t) e .resets) where
-      pub move-image : ImageReady s (x .at) byte
-      move-image = record { table = t; rules = rs; setting = set; corner = k; move = e; there = o .there some; byte-is = byte-is }
-
-      pub move-node :
-          (image target : ℕ) → image ≡ imageOf s (x .at) byte → target ≡ moveAt (automatonOf t) e .target
-          → image + target * s .block ≡ moveEdge (automatonOf t) (placeAt (x .at)) (x .at .index) e .to
-      unfolding move-image
-      move-node image target image-is target-is =
-          let m = moveAt (automatonOf t) e .target in
-          let r = movedTo (automatonOf t) e (placeAt (x .at)) .region in
-          let corner = resetAllCorner (moveAt (automatonOf t) e .resets) (view (x .at .region)) (x .at .index) in
-          let number : imageOf s (x .at) byte ≡ nodeNumber (automatonOf t .ceilings) (nodeOf 0 r corner) = image-number move-image in
-          ap₂ (λ (i n : ℕ). i + n * s .block) image-is target-is
-          ∙ omega (arith, number, mode-number (automatonOf t .ceilings) r m corner, ap (λ (b : ℕ). m * b) (set .is-space .block-is))
+    -- By its image, its node.
+    pub move-node :
+        (byte : ℕ) → byte ≡ moveFieldsAt (fieldsOf t) e .resets → (image target : ℕ) → NodeImage s (x .at) (namedTimers byte) image
+        → target ≡ moveAt (automatonOf t) e .target
+        → image + target * s .block ≡ moveEdge (automatonOf t) (placeAt (x .at)) (x .at .index) e .to
+    move-node byte byte-is image target image-is target-is =
+        let r = movedTo (automatonOf t) e (placeAt (x .at)) .region in
+        let corner = resetAllCorner (moveAt (automatonOf t) e .resets) (view (x .at .region)) (x .at .index) in
+        ap (λ (n : ℕ). image + n * s .block) target-is
+        ∙ mode-block (set .is-space) r (moveAt (automatonOf t) e .target) corner (image-is ∙ image-number (move-image set k o some byte-is))
 
     module _ (goal : ℕ) (ws : List ℕ) (h : Holding t s x ws goal) where
       pub move-inside : moveEdge (automatonOf t) (placeAt (x .at)) (x .at .index) e .to < s .nodes

@@ -1,7 +1,8 @@
 // The edges of a node, relaxed one after another.
 ghost use mathlib.Core.Path.{_≡_};
 ghost use Prim.Native.Nat.{_+_, _*_, _<_, _≤_};
-ghost use Rattle.space.specs.Images.{imageOf, ImageReady, Images, ImageDone};
+ghost use Rattle.table.specs.Meaning.{namedTimers};
+ghost use Rattle.space.specs.Images.{imageOf, NodeImage, ImageReady, Images, ImageDone};
 ghost use Rattle.search.specs.Edges.{IsMove, IsWait, IsAny, Short, EdgesReady, EdgesDone};
 ghost use Rattle.search.specs.Waits.{IsDelay, IsLinger, WaitReady, WaitDone, DelayReady};
 use regions::nodes;
@@ -113,7 +114,7 @@ fn in_mode_0(node: usize, mode: usize, block: usize) -> usize
 // The node of mode 0 to which the resets of a byte lead from a corner of the region.
 fn image_of(space: Space, at: NodeRegion, resets: u8) -> usize
     requires { ⌜ ImageReady space at resets ⌝ }
-    ensures { λ r. ⌜ r ≡ imageOf space at resets ⌝ }
+    ensures { λ r. ⌜ r ≡ imageOf space at (namedTimers resets) ⌝ }
 {
     // Where no timer is reset the corner stays the same.
     if resets % 8 == 0 {
@@ -128,17 +129,15 @@ fn image_of(space: Space, at: NodeRegion, resets: u8) -> usize
 
 // It is found once for each reset byte. There are eight of them.
 fn image(images: &mut [u32; 8], space: Space, at: NodeRegion, resets: u8) -> usize
-    requires { ⌜ ImageReady space at resets × Images space at (now images) ⌝ }
-    ensures { λ r. ⌜ ImageDone space at resets (now (images .exit)) r ⌝ }
+    requires { ⌜ ImageReady space at resets × Images (NodeImage space at) (now images) ⌝ }
+    ensures { λ r. ⌜ ImageDone (NodeImage space at) resets (now (images .exit)) r ⌝ }
 {
     let k = (resets % 8) as usize;
-    if images[k] == NO_IMAGE {
+    if images[k] == moves::NO_IMAGE {
         images[k] = image_of(space, at, resets) as u32;
     }
     images[k] as usize
 }
-
-const NO_IMAGE: u32 = 0xFFFF_FFFF;
 
 // The edges of moves.
 fn relax_moves(
@@ -156,7 +155,7 @@ fn relax_moves(
     let halves = region.halves();
     // The unit's core multiplies in 32 bits.
     let block = space.block as u32;
-    let mut images = [NO_IMAGE; 8];
+    let mut images = [moves::NO_IMAGE; 8];
     let mut e = moves::next_move(rules, halves, rules::first(rules, at.mode));
     while e < rules::NONE {
         let target = table::target(table, e) as u32;

@@ -1,36 +1,64 @@
--- The node of mode 0 to which the resets of a move lead from a corner, and the array in which these are kept for each byte.
+-- The region to which the resets of a move lead, and the node of mode 0 to which they lead from a corner.
 -- Assumes nothing.
-use mathlib.Core.Path.{_≡_, sym, ap, ap₂, subst, _∙_}
-use mathlib.Core.Logic.{_≢_, _⊎_, inl, inr}
+use mathlib.Core.Path.{_≡_, sym, ap, ap₂, _∙_}
 use mathlib.Core.List.{List}
-use Prim.Native.Nat.{ℕ, _+_, _*_, _/_, _%_, _≤_, _<_}
-use native.Mathlib.Decide.{ℕ-discrete}
+use Prim.Native.Nat.{ℕ, _+_, _*_, _%_, _≤_, _<_}
 use native.Mathlib.Omega.{arith}
-use lib.ListN.{getD, set, take, replicate, length-set, length-replicate, getD-replicate}
-use lib.Seq.{getD-set-same, getD-set-other}
+use lib.ListN.{length, getD, take}
 use Rattle.semantics.specs.Automata.Proper.{Proper}
 use Rattle.semantics.specs.Automaton.{Automaton, timers, moveAt}
 use Rattle.semantics.specs.Region.{PricedRegion, top, resetAll}
 use Rattle.semantics.specs.Nodes.Node.{nodeOf, nodeNumber}
 use Rattle.semantics.specs.Chain.{Place}
+use Rattle.semantics.specs.Graph.CornerGraph.{numberOf}
 use Rattle.semantics.specs.Corners.Edges.{resetAllCorner}
 use Rattle.semantics.specs.Bounds.Prices.{price}
 use Rattle.semantics.specs.Bounds.Moved.{moved-to}
 use Rattle.semantics.specs.Answers.Places.{IsPlace}
 use Rattle.semantics.specs.Answers.Moving.{movedTo, moved-place, last-price, first-price}
 use Rattle.table.specs.Meaning.{namedTimers}
-use Rattle.table.specs.Held.{automatonOf, pad}
+use Rattle.table.specs.Held.{automatonOf, fieldsOf, moveFieldsAt, pad}
 use Rattle.regions.specs.declared.Region.{Region}
 use Rattle.regions.specs.declared.nodes.NodeRegion.{NodeRegion}
-use Rattle.regions.specs.Held.{mostCorners, pack, view}
+use Rattle.regions.specs.Held.{mostCorners, pack, view, Valid}
+use Rattle.regions.specs.Nodes.{mostModes, CeilingsFew, Padded}
 use Rattle.regions.specs.Laws.Chain.{Gives, resetAll-gives}
+use Rattle.rules.specs.Rules.{none}
 use Rattle.rules.proofs.Joining.{move-resets}
 use Rattle.space.specs.declared.Space.{Space}
-use Rattle.space.specs.Space.{placeAt}
-use Rattle.space.specs.Images.{LastAtMost, imageOf, ImageReady, noImage, Images, ImageDone}
+use Rattle.space.specs.Space.{Setting, placeAt, IsCorner}
+use Rattle.space.specs.Moves.{OpenMove}
+use Rattle.space.specs.Images.{LastAtMost, imageOf, ImageReady}
 use Rattle.space.specs.Laws.Shares.{some-modes}
-use Rattle.space.proofs.Settings.{padded-at, place-below, region-ceilings, region-number, corner-number, setting-proper}
-use Rattle.space.proofs.MoveEdges.{mode-number}
+use Rattle.space.specs.Laws.Images.{low-bits}
+use Rattle.space.proofs.Settings.{padded-at, place-below, region-ceilings, node-ready, corner-number, setting-proper}
+use Rattle.space.proofs.MoveEdges.{mode-block}
+
+-- Which place is the last at which stands at most the bound goes by what is read.
+pub last-like :
+    (l k : List ℕ) {last last′ bound r : ℕ} → ((i : ℕ) → getD l i 0 ≡ getD k i 0) → last ≡ last′ → LastAtMost l last bound r
+    → LastAtMost k last′ bound r
+last-like l k {last} {last′} {bound} {r} same e x = record {
+  within = omega (arith, x .within);
+  at-most = omega (arith, x .at-most, same r);
+  above = λ i h b. omega (arith, x .above i h (omega arith), same i);
+}
+
+-- The resets of a move lead from corner j to the last one whose price after them is at most j.
+pub last-corner :
+    {t : List ℕ} {z : NodeRegion} → Proper (automatonOf t) → IsCorner t z → (e : ℕ) → e < length (automatonOf t .moves)
+    → (j k : ℕ) → j ≤ top (view (z .region))
+    → LastAtMost (movedTo (automatonOf t) e (placeAt z) .region .prices) (top (movedTo (automatonOf t) e (placeAt z) .region)) j k
+    → k ≡ resetAllCorner (moveAt (automatonOf t) e .resets) (view (z .region)) j
+last-corner {t} {z} ok c e there j k b last =
+    last-price (automatonOf t) ok e there (placeAt z) (c .place) (c .indexed) j k b (last .within) (last .at-most) (last .above)
+
+-- What is asked for the image of a move that is not passed over.
+abbrev pub move-image :
+    {t rs hs : List ℕ} {s : Space} {z : NodeRegion} {mode e byte : ℕ} → Setting t rs s → IsCorner t z → OpenMove t rs hs mode e → e < none
+    → byte ≡ moveFieldsAt (fieldsOf t) e .resets → ImageReady s z byte
+move-image {t} {rs} {e = e} set k o some byte-is =
+    record { table = t; rules = rs; setting = set; corner = k; move = e; there = o .there some; byte-is = byte-is }
 
 module _ {s : Space} {z : NodeRegion} {byte : ℕ} (i : ImageReady s z byte) where
   abbrev a : Automaton
@@ -57,6 +85,13 @@ module _ {s : Space} {z : NodeRegion} {byte : ℕ} (i : ImageReady s z byte) whe
     pub moved-seen : view m ≡ movedTo (automatonOf (i .table)) (i .move) (placeAt z) .region
     moved-seen = moved-gives .seen ∙ ap (λ (xs : List ℕ). resetAll xs (view (z .region))) resets-are
 
+    -- What `node_of` asks of it, in mode 0.
+    pub moved-ready :
+        (index : ℕ) → index ≤ m .top
+        → Valid m × (index ≤ m .top) × (0 < mostModes) × CeilingsFew (s .ceilings) × Padded (m .timers) (s .ceilings)
+    moved-ready index inside =
+        node-ready (i .setting .is-table) (i .setting .is-space) m moved-timers 0 index (moved-gives .valid) inside (omega arith)
+
     module _ {ps : List ℕ} (prices-are : ps ≡ pad mostCorners (view m .prices)) where
       price-at : (k : ℕ) → getD ps k 0 ≡ price (movedTo (automatonOf (i .table)) (i .move) (placeAt z) .region) k
       price-at k = padded-at mostCorners (view m .prices) prices-are k ∙ ap (λ (q : PricedRegion). price q k) moved-seen
@@ -68,21 +103,34 @@ module _ {s : Space} {z : NodeRegion} {byte : ℕ} (i : ImageReady s z byte) whe
       pub moved-corner :
           (last k : ℕ) → last ≡ top (view m) → LastAtMost ps last (z .index) k → k ≡ resetAllCorner (namedTimers byte) (view (z .region)) (z .index)
       moved-corner last k last-is most =
-          let tops : top (view m) ≡ top (movedTo (automatonOf (i .table)) (i .move) (placeAt z) .region) = ap top moved-seen in
-          last-price a ok (i .move) (i .there) (placeAt z) (i .corner .place) (i .corner .indexed) (z .index) k (i .corner .inside)
-          (omega (arith, most .within)) (omega (arith, most .at-most, price-at k)) (λ n l b. omega (arith, most .above n l (omega arith), price-at n))
+          last-corner ok (i .corner) (i .move) (i .there) (z .index) k (i .corner .inside)
+          (last-like ps (movedTo a (i .move) (placeAt z) .region .prices) price-at (last-is ∙ ap top moved-seen) most)
           ∙ ap (λ (xs : List ℕ). resetAllCorner xs (view (z .region)) (z .index)) (sym resets-are)
 
     -- So the number of that corner is the image.
     pub moved-number :
         (k v : ℕ) → k ≡ resetAllCorner (namedTimers byte) (view (z .region)) (z .index)
-        → v ≡ nodeNumber (take (m .timers) (s .ceilings)) (nodeOf 0 (view m) k) → v ≡ imageOf s z byte
+        → v ≡ nodeNumber (take (m .timers) (s .ceilings)) (nodeOf 0 (view m) k) → v ≡ imageOf s z (namedTimers byte)
     unfolding imageOf
     moved-number k v is number = number ∙ rw (moved-gives .seen, is, moved-gives .timers)
 
-  -- In the table's terms.
+  -- The corners of the region after the resets are nodes in mode 0 too.
+  pub moved-few :
+      (k : ℕ) → k ≤ top (movedTo (automatonOf (i .table)) (i .move) (placeAt z) .region)
+      → numberOf (automatonOf (i .table)) (record { mode = 0; region = movedTo (automatonOf (i .table)) (i .move) (placeAt z) .region }) k < 65535
+  moved-few k h =
+      let moved = moved-place a ok (i .move) (i .there) (placeAt z) (i .corner .place) in
+      let q : Place = record { mode = 0; region = movedTo a (i .move) (placeAt z) .region } in
+      let place : IsPlace a q = record {
+        well-formed = moved .well-formed;
+        cell = moved .cell;
+        in-modes = some-modes (i .table) (i .setting .is-table);
+      } in
+      omega (arith, place-below a q place k h, i .setting .few, i .setting .is-space .nodes-are)
+
+  -- The image in the table's terms.
   pub image-number :
-      imageOf s z byte
+      imageOf s z (namedTimers byte)
       ≡ nodeNumber (automatonOf (i .table) .ceilings)
       (nodeOf 0 (movedTo (automatonOf (i .table)) (i .move) (placeAt z) .region)
       (resetAllCorner (moveAt (automatonOf (i .table)) (i .move) .resets) (view (z .region)) (z .index)))
@@ -92,70 +140,17 @@ module _ {s : Space} {z : NodeRegion} {byte : ℕ} (i : ImageReady s z byte) whe
       (λ (cs xs : List ℕ). nodeNumber cs (nodeOf 0 (resetAll xs (view (z .region))) (resetAllCorner xs (view (z .region)) (z .index))))
       (region-ceilings (i .setting .is-table) (i .setting .is-space) (z .region) (i .corner .timers-are)) resets-are
 
-  pub image-few : imageOf s z byte ≤ 65535
+  pub image-few : imageOf s z (namedTimers byte) < 65535
   image-few =
-      let p = movedTo a (i .move) (placeAt z) in
-      let q : Place = record { mode = 0; region = p .region } in
-      let moved = moved-place a ok (i .move) (i .there) (placeAt z) (i .corner .place) in
-      let place : IsPlace a q = record {
-        well-formed = moved .well-formed;
-        cell = moved .cell;
-        in-modes = some-modes (i .table) (i .setting .is-table);
-      } in
       let there = moved-to a ok (i .move) r (i .corner .place .well-formed) (i .corner .place .cell .sized) .there (z .index) (i .corner .inside) in
-      omega (arith, image-number, place-below a q place _ there, i .setting .few, i .setting .is-space .nodes-are)
+      omega (arith, image-number, moved-few _ there)
 
--- Only the three low bits of a byte name timers.
-high-bit : (byte : ℕ) → byte % 8 / 4 % 2 ≡ byte / 4 % 2
-high-bit byte = let quarters : byte / 4 ≡ 2 * (byte / 8) + byte % 8 / 4 = omega arith in omega (arith, quarters)
-
-low-bits : (byte : ℕ) → namedTimers (byte % 8) ≡ namedTimers byte
-low-bits byte =
-    let zero : byte % 8 / 1 % 2 ≡ byte / 1 % 2 = omega arith in
-    let one : byte % 8 / 2 % 2 ≡ byte / 2 % 2 = omega arith in
-    let two : byte % 8 / 4 % 2 ≡ byte / 4 % 2 = high-bit byte in
-    rw (zero, one, two)
-
-image-low : (s : Space) (z : NodeRegion) (byte : ℕ) → imageOf s z (byte % 8) ≡ imageOf s z byte
-unfolding imageOf
-image-low s z byte = rw (low-bits byte)
-
--- Where no timer is reset the image is the node's own corner, in mode 0.
-pub unmoved-image : {s : Space} {z : NodeRegion} {byte : ℕ} → ImageReady s z byte → byte % 8 ≡ 0 → z .first + z .index ≡ imageOf s z byte + z .mode * s .block
-unfolding imageOf view resetAll resetAllCorner
-unmoved-image {s} {z} {byte} i none =
-    let a = automatonOf (i .table) in
-    let r = view (z .region) in
-    let own : imageOf s z byte ≡ nodeNumber (take (z .region .timers) (s .ceilings)) (nodeOf 0 r (z .index)) =
-    sym (image-low s z byte) ∙ ap (λ (b : ℕ). imageOf s z b) none in
-    let zero = own ∙ region-number (i .setting .is-table) (i .setting .is-space) (z .region) (i .corner .timers-are) 0 (z .index) in
-    let here = corner-number (i .corner) (z .index) (i .corner .inside) in
-    omega (arith, zero, here, mode-number (a .ceilings) r (z .mode) (z .index), ap (λ (b : ℕ). z .mode * b) (i .setting .is-space .block-is))
-
--- At first there is none.
-pub images-none : (s : Space) (z : NodeRegion) → Images s z (replicate 8 noImage)
-images-none s z = record { sized = length-replicate 8 noImage; each = λ k l. inl (getD-replicate 8 k noImage 0 l) }
-
--- What stands in the array at the place of a byte is the image, if it is one, and stays; or it becomes the image.
-module _ {s : Space} {z : NodeRegion} {images : List ℕ} (i : Images s z images) (byte : ℕ) (images′ : List ℕ) where
-  pub image-kept : getD images (byte % 8) 0 ≢ noImage → images′ ≡ images → ImageDone s z byte images′ (getD images′ (byte % 8) 0)
-  image-kept known same = rw same (record { is = at (i .each (byte % 8) (omega arith)); images = i })
-    where
-      at : (getD images (byte % 8) 0 ≡ noImage) ⊎ (getD images (byte % 8) 0 ≡ imageOf s z (byte % 8)) → getD images (byte % 8) 0 ≡ imageOf s z byte
-      at (inl q) = absurd (known q)
-      at (inr q) = q ∙ image-low s z byte
-
-  pub image-stored : (v : ℕ) → v ≡ imageOf s z byte → images′ ≡ set images (byte % 8) v → ImageDone s z byte images′ (getD images′ (byte % 8) 0)
-  image-stored v is stored = rw stored (record {
-    is = here ∙ is;
-    images = record { sized = length-set images (byte % 8) v ∙ i .sized; each = λ k l. at k l (ℕ-discrete k (byte % 8)) };
-  })
-    where
-      here : getD (set images (byte % 8) v) (byte % 8) 0 ≡ v
-      here = getD-set-same images (byte % 8) v 0 (omega (arith, i .sized))
-
-      at :
-          (k : ℕ) → k < 8 → Dec (k ≡ byte % 8)
-          → (getD (set images (byte % 8) v) k 0 ≡ noImage) ⊎ (getD (set images (byte % 8) v) k 0 ≡ imageOf s z k)
-      at k l (yes q) = inr (rw q (here ∙ is ∙ sym (image-low s z byte)))
-      at k l (no n) = subst (λ (x : ℕ). (x ≡ noImage) ⊎ (x ≡ imageOf s z k)) (sym (getD-set-other images (byte % 8) k v 0 n)) (i .each k l)
+  -- Where no timer is reset the image is the node's own corner, in mode 0.
+  pub unmoved-image : byte % 8 ≡ 0 → z .first + z .index ≡ imageOf s z (namedTimers byte) + z .mode * s .block
+  unfolding imageOf view resetAll resetAllCorner
+  unmoved-image none =
+      let cs = region-ceilings (i .setting .is-table) (i .setting .is-space) (z .region) (i .corner .timers-are) in
+      let names : namedTimers byte ≡ namedTimers 0 = sym (low-bits byte) ∙ ap namedTimers none in
+      let own : imageOf s z (namedTimers byte) ≡ nodeNumber (automatonOf (i .table) .ceilings) (nodeOf 0 r (z .index)) =
+      ap (imageOf s z) names ∙ ap (λ (c : List ℕ). nodeNumber c (nodeOf 0 r (z .index))) cs in
+      sym (mode-block (i .setting .is-space) r (z .mode) (z .index) own ∙ corner-number (i .corner) (z .index) (i .corner .inside))

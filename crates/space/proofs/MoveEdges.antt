@@ -1,6 +1,6 @@
 -- The edges of moves from a corner are those of the moves that are not passed over there.
 -- Assumes nothing.
-use mathlib.Core.Path.{_≡_, refl, sym, _∙_}
+use mathlib.Core.Path.{_≡_, refl, sym, ap, _∙_}
 use mathlib.Core.Bool.{Bool, true, false, cond}
 use mathlib.Core.Logic.{_↔_}
 use mathlib.Core.List.{List}
@@ -27,6 +27,8 @@ use Rattle.table.specs.Held.{automatonOf, IsTable}
 use Rattle.table.specs.Theorems.Access.{table-proper}
 use Rattle.rules.specs.Rules.{targetConditions, IsRules}
 use Rattle.rules.specs.Laws.Windows.{move-window}
+use Rattle.space.specs.declared.Space.{Space}
+use Rattle.space.specs.Space.{IsSpace}
 use Rattle.space.specs.Halves.{half-resets}
 use Rattle.space.specs.Moves.{Open}
 use Rattle.space.proofs.Settings.{place-halves, halvesOf, halves-at}
@@ -102,10 +104,17 @@ pub edge-is : (a : Automaton) (p : Place) (j : ℕ) (x : Edge) → MoveEdge a p 
 edge-is a p j x m = λ i. record { label = x .label; weight = m .weighs i; to = m .leads i }
 
 -- A mode's nodes come behind those of the modes before it.
-pub mode-number :
+mode-number :
     (cs : List ℕ) (r : PricedRegion) (m j : ℕ)
     → nodeNumber cs (nodeOf m r j) ≡ nodeNumber cs (nodeOf 0 r j) + m * (cellCount cs * cornerCount (length cs) 1)
 unfolding nodeNumber
 mode-number cs r m j =
     let k = cornerCount (length cs) 1 in
     omega (arith, add-mul (m * cellCount cs) (cellNumber cs (r .whole)) k, mul-assoc m (cellCount cs) k)
+
+-- So they come that many blocks behind those of mode 0.
+pub mode-block :
+    {t : List ℕ} {s : Space} → IsSpace t s → (r : PricedRegion) (m j : ℕ) {image : ℕ} → image ≡ nodeNumber (automatonOf t .ceilings) (nodeOf 0 r j)
+    → image + m * s .block ≡ numberOf (automatonOf t) (record { mode = m; region = r }) j
+mode-block {t} space r m j is =
+    omega (arith, is, mode-number (automatonOf t .ceilings) r m j, ap (λ (b : ℕ). m * b) (space .block-is))

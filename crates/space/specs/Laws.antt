@@ -1,3 +1,4 @@
 -- What a caller may conclude from the contracts.
 pub mod Shares
 pub mod NodeRegion
+pub mod Images

@@ -39,3 +39,7 @@ pub fn last_at_most(prices: [u32; Region::MOST_CORNERS], last: usize, bound: usi
     }
     i
 }
+
+// What resets do is found once for each of the eight reset bytes, and kept in an array. There this stands for a byte of which it was not found yet: no
+// image has more than 24 bits.
+pub const NO_IMAGE: u32 = 0xFFFF_FFFF;

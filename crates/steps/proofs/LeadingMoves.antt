@@ -1,25 +1,24 @@
--- The step of a move from the place at which a walk stands: to which corners it leads, by the image of its reset byte.
+-- The step of a move from the place at which a walk stands: to which corners it leads, by the image of its resets.
 -- Assumes nothing.
-use mathlib.Core.Path.{_≡_, refl, sym, ap, ap₂, subst, _∙_}
+use mathlib.Core.Path.{_≡_, refl, sym, ap, subst, _∙_}
 use mathlib.Core.List.{List}
 use mathlib.Core.Option.{some}
 use Prim.Native.Nat.{ℕ, _+_, _*_, _/_, _%_, _≤_, _<_}
 use native.Mathlib.Omega.{arith}
 use lib.ListN.{length}
-use Rattle.semantics.specs.Automaton.{Automaton, Move, moveAt}
-use Rattle.semantics.specs.Region.{PricedRegion, top, resetAll}
+use Rattle.semantics.specs.Automaton.{Automaton, moveAt}
+use Rattle.semantics.specs.Region.{PricedRegion, top}
 use Rattle.semantics.specs.Corners.Edges.{resetAllCorner}
 use Rattle.semantics.specs.Chain.{Place, step}
 use Rattle.semantics.specs.Nodes.Node.{nodeOf, nodeNumber}
 use Rattle.semantics.specs.Graph.Path.{Entry}
 use Rattle.semantics.specs.Graph.CornerGraph.{numberOf}
 use Rattle.semantics.specs.Answers.Places.{IsPlace}
-use Rattle.semantics.specs.Answers.Moving.{movedTo, moved-place, last-price}
+use Rattle.semantics.specs.Answers.Moving.{movedTo, moved-place}
 use Rattle.semantics.specs.Answers.Marks.{Led}
 use Rattle.semantics.specs.Answers.Led.{led-move, moved-number}
-use Rattle.table.specs.Meaning.{namedTimers}
-use Rattle.table.specs.Held.{automatonOf, fieldsOf, moveFieldsAt}
-use Rattle.table.specs.Theorems.Access.{price-within, move-of-fields}
+use Rattle.table.specs.Held.{automatonOf}
+use Rattle.table.specs.Theorems.Access.{price-within}
 use Rattle.regions.specs.declared.nodes.NodeRegion.{NodeRegion}
 use Rattle.regions.specs.Held.{view}
 use Rattle.space.specs.declared.Space.{Space}
@@ -30,7 +29,8 @@ use Rattle.steps.specs.Images.{cornerOf, Goes, IsImage}
 use Rattle.steps.specs.Steps.{Marked, Tells}
 use Rattle.steps.specs.Leading.{IsLed, MoveEdges, LedMoveReady, StepReady, Allowed, TriedOne}
 use Rattle.space.proofs.Settings.{place-row, region-ceilings}
-use Rattle.space.proofs.MoveEdges.{mode-number}
+use Rattle.space.proofs.Imaging.{last-corner}
+use Rattle.space.proofs.MoveEdges.{mode-block}
 use Rattle.steps.proofs.Sets.{marked-few}
 use Rattle.steps.proofs.Standing.{stand-proper, stand-corners, stand-among, row-inside, corners-ready, tight-grows, tried-one}
 
@@ -59,16 +59,12 @@ module _ {t : List ℕ} {s : Space} {x : NodeRegion} {z : Stand} {ws : List ℕ}
   corner-is :
       (j i : ℕ) → j ≤ top (view (x .region)) → LastAtMost (next .prices) (top next) j i
       → i ≡ resetAllCorner (moveAt (automatonOf t) e .resets) (view (x .region)) j
-  corner-is j i b last =
-      last-price a (stand-proper w) e there p (w .here .corner .place) (w .here .corner .indexed) j i b (last .within) (last .at-most) (last .above)
+  corner-is j i b last = last-corner (stand-proper w) (w .here .corner) e there j i b last
 
-  -- The image of its reset byte.
-  module _ {image : ℕ} (is : IsImage s x (moveFieldsAt (fieldsOf t) e .resets) image) where
-    resets-are : namedTimers (moveFieldsAt (fieldsOf t) e .resets) ≡ moveAt (automatonOf t) e .resets
-    resets-are = sym (ap (λ (m : Move). m .resets) (move-of-fields (fieldsOf t) e))
-
+  -- The image of its resets.
+  module _ {image : ℕ} (is : IsImage s x (moveAt (automatonOf t) e .resets) image) where
     goes : Goes (movedTo (automatonOf t) e (placeAt x) .region) (image / 65536)
-    goes = subst (λ (xs : List ℕ). Goes (resetAll xs (view (x .region))) (image / 65536)) resets-are (is .map)
+    goes = is .map
 
     -- The first node of the target, as code finds it.
     module _ {target : ℕ} (target-is : target ≡ moveAt (automatonOf t) e .target) where
@@ -79,16 +75,8 @@ module _ {t : List ℕ} {s : Space} {x : NodeRegion} {z : Stand} {ws : List ℕ}
       number =
           let set = w .ready .setting in
           let cs = region-ceilings (set .is-table) (set .is-space) (x .region) (w .here .corner .timers-are) in
-          let first : image % 65536 ≡ nodeNumber (a .ceilings) (nodeOf 0 next 0) =
-          is .first ∙ ap₂ (λ (cs xs : List ℕ). nodeNumber cs (nodeOf 0 (resetAll xs (view (x .region))) 0)) cs resets-are in
-          let m = moveAt a e .target in
-          omega (
-            arith,
-            first,
-            mode-number (a .ceilings) next m 0,
-            ap (λ (b : ℕ). m * b) (set .is-space .block-is),
-            ap (λ (n : ℕ). n * s .block) target-is,
-          )
+          ap (λ (n : ℕ). image % 65536 + n * s .block) target-is
+          ∙ mode-block (set .is-space) next (moveAt a e .target) 0 (is .first ∙ ap (λ (cs : List ℕ). nodeNumber cs (nodeOf 0 next 0)) cs)
 
       row : (i : ℕ) → i ≤ top next → numberOf a (movedTo a e p) i ≡ to + i
       row = place-row a (movedTo a e p) after to number

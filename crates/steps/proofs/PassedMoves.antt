@@ -14,15 +14,16 @@ use Rattle.semantics.specs.Bounds.Steps.{movedBy, moves, view-step}
 use Rattle.semantics.specs.Bounds.Shapes.{shape-charge, shape-meetsAll}
 use Rattle.semantics.specs.Answers.Moving.{movedTo, edge-move}
 use Rattle.semantics.specs.Answers.Marks.{Led}
+use Rattle.table.specs.Meaning.{namedTimers}
 use Rattle.table.specs.Held.{automatonOf, fieldsOf, moveFieldsAt}
 use Rattle.rules.specs.Rules.{none, IsRules}
+use Rattle.rules.proofs.Joining.{move-resets}
 use Rattle.regions.specs.declared.nodes.NodeRegion.{NodeRegion}
 use Rattle.regions.specs.Held.{view}
 use Rattle.space.specs.declared.Space.{Space}
 use Rattle.steps.specs.declared.Stand.{Stand}
 use Rattle.steps.specs.declared.Next.{Next}
 use Rattle.space.specs.Space.{placeAt}
-use Rattle.space.specs.Images.{ImageReady}
 use Rattle.space.specs.Moves.{Open, OpenMove, OpenFrom}
 use Rattle.steps.specs.Images.{IsImage}
 use Rattle.steps.specs.Steps.{Marked, noStep}
@@ -70,21 +71,16 @@ module _ {t : List ℕ} {s : Space} {x : NodeRegion} {z : Stand} {ws : List ℕ}
       let y : Place = record { mode = moveAt a e .target; region = movedBy a e (p .region) } in
       (there, (y, subst (λ (q : Place). step a e q ≡ some y) (w .here .place-is) f))
 
-  -- What is asked for the image of its reset byte, and to try it with that.
-  module _ {e : ℕ} (o : OpenMove t rs hs (x .mode) e) (h : e < none) {byte : ℕ} (byte-is : byte ≡ moveFieldsAt (fieldsOf t) e .resets) where
-    pub image-ready : ImageReady s x byte
-    image-ready = record {
-      table = t;
-      rules = w .rules;
-      setting = w .ready .setting;
-      corner = w .here .corner;
-      move = e;
-      there = o .there h;
-      byte-is = byte-is;
-    }
-
-    pub along-ready : {image : ℕ} → IsImage s x byte image → AlongReady t s z ws image e
-    along-ready {image} is = record { at = x; ready = w; allowed = open-allowed o h; is = subst (λ (b : ℕ). IsImage s x b image) byte-is is }
+  -- With the image of its reset byte it can be tried.
+  pub along-ready :
+      {e : ℕ} → OpenMove t rs hs (x .mode) e → e < none → {byte : ℕ} → byte ≡ moveFieldsAt (fieldsOf t) e .resets → {image : ℕ}
+      → IsImage s x (namedTimers byte) image → AlongReady t s z ws image e
+  along-ready {e} o h {byte} byte-is {image} is = record {
+    at = x;
+    ready = w;
+    allowed = open-allowed o h;
+    is = subst (λ (xs : List ℕ). IsImage s x xs image) (move-resets t e byte byte-is) is;
+  }
 
   -- The first of them,
   pub silent-first : {e : ℕ} → OpenFrom t rs hs (x .mode) (z .byte) e → SilentTo t s z ws e

@@ -1,18 +1,16 @@
--- What the resets of a byte do at the place where a walk stands, as one word.
+-- What resets do at the place where a walk stands, as one word.
 -- Assumes nothing.
 use mathlib.Core.Path.{_≡_}
-use mathlib.Core.Logic.{_⊎_}
 use mathlib.Core.List.{List}
 use Prim.Native.Nat.{ℕ, _*_, _/_, _%_, _^_, _<_}
-use lib.ListN.{length, getD, take}
+use lib.ListN.{getD, take}
 use Rattle.semantics.specs.Region.{PricedRegion, top, resetAll}
 use Rattle.semantics.specs.Nodes.Node.{nodeOf, nodeNumber}
-use Rattle.table.specs.Meaning.{namedTimers}
 use Rattle.regions.specs.declared.Region.{Region}
 use Rattle.regions.specs.declared.nodes.NodeRegion.{NodeRegion}
 use Rattle.regions.specs.Held.{view, Valid}
 use Rattle.space.specs.declared.Space.{Space}
-use Rattle.space.specs.Images.{LastAtMost, noImage}
+use Rattle.space.specs.Images.{LastAtMost}
 
 -- The corner to which corner j goes: a map has two bits for each.
 abbrev pub cornerOf : ℕ → ℕ → ℕ
@@ -27,17 +25,7 @@ pub record Goes (r : PricedRegion) (map : ℕ) : Type 0 where
   pub few : map < 256
   pub each : (j : ℕ) → j < 4 → LastAtMost (r .prices) (top r) j (cornerOf map j)
 
--- The image of a byte: corner 0 of the region after its resets, as a node of mode 0, in the low half, and the map above it. This determines it.
-pub record IsImage (s : Space) (z : NodeRegion) (byte image : ℕ) : Type 0 where
-  pub first :
-      image % 65536 ≡ nodeNumber (take (z .region .timers) (s .ceilings)) (nodeOf 0 (resetAll (namedTimers byte) (view (z .region))) 0)
-  pub map : Goes (resetAll (namedTimers byte) (view (z .region))) (image / 65536)
-
--- For each byte below 8 the image, if it was found.
-pub record Images (s : Space) (z : NodeRegion) (found : List ℕ) : Type 0 where
-  pub sized : length found ≡ 8
-  pub each : (k : ℕ) → k < 8 → (getD found k 0 ≡ noImage) ⊎ IsImage s z k (getD found k 0)
-
-pub record ImageDone (s : Space) (z : NodeRegion) (byte : ℕ) (found : List ℕ) (r : ℕ) : Type 0 where
-  pub is : IsImage s z byte r
-  pub images : Images s z found
+-- The image of resets: corner 0 of the region after them, as a node of mode 0, in the low half, and the map above it. This determines it.
+pub record IsImage (s : Space) (z : NodeRegion) (xs : List ℕ) (image : ℕ) : Type 0 where
+  pub first : image % 65536 ≡ nodeNumber (take (z .region .timers) (s .ceilings)) (nodeOf 0 (resetAll xs (view (z .region))) 0)
+  pub map : Goes (resetAll xs (view (z .region))) (image / 65536)

@@ -8,11 +8,12 @@ use mathlib.Core.Option.{some}
 use Prim.Native.Nat.{ℕ, _+_, _*_, _≤_, _<_}
 use lib.Dec.{ltb}
 use lib.ListN.{length, getD}
+use Rattle.semantics.specs.Automaton.{moveAt}
 use Rattle.semantics.specs.Region.{PricedRegion, top}
 use Rattle.semantics.specs.Chain.{Place, step}
 use Rattle.semantics.specs.Graph.Path.{Entry, infinity, chargeAt, stepsAt}
 use Rattle.semantics.specs.Answers.Marks.{Led}
-use Rattle.table.specs.Held.{automatonOf, fieldsOf, moveFieldsAt, IsTable}
+use Rattle.table.specs.Held.{automatonOf, IsTable}
 use Rattle.rules.specs.Rules.{none, IsRules}
 use Rattle.regions.specs.declared.Region.{Region}
 use Rattle.regions.specs.declared.nodes.NodeRegion.{NodeRegion}
@@ -134,12 +135,12 @@ pub record StepReady (t : List ℕ) (s : Space) (x : NodeRegion) (z : Stand) (ws
 abbrev pub Allowed : List ℕ → Stand → ℕ → Type 0
 Allowed t z e = (e < length (automatonOf t .moves)) × ((y : Place) × (step (automatonOf t) e (standPlace t z) ≡ some y))
 
--- And the image is that of its reset byte, from the place at which the walk stands.
+-- And the image is that of its resets, from the place at which the walk stands.
 pub record AlongReady (t : List ℕ) (s : Space) (z : Stand) (ws : List ℕ) (image e : ℕ) : Type 0 where
   pub at : NodeRegion
   pub ready : StepReady t s at z ws
   pub allowed : Allowed t z e
-  pub is : IsImage s at (moveFieldsAt (fieldsOf t) e .resets) image
+  pub is : IsImage s at (moveAt (automatonOf t) e .resets) image
 
 -- The byte is one from which on the moves of a mode of the table t are looked at. What is said of the first that is not passed over holds for every
 -- table whose rules these are.

@@ -7,9 +7,10 @@ ghost use lib.Dec.{ltb};
 ghost use Rattle.rules.specs.Rules.{IsRules};
 ghost use Rattle.regions.specs.Held.{view};
 ghost use Rattle.steps.specs.Steps.{Marked, StandReady, noStep, NextStep};
-ghost use Rattle.steps.specs.Images.{cornerOf, RegionReady, Goes, IsImage, Images, ImageDone};
+ghost use Rattle.steps.specs.Images.{cornerOf, RegionReady, Goes, IsImage};
 ghost use Rattle.steps.specs.Leading.{Adds, TightReady, TightAt, LedTo, CornersReady, LeadReady, IsLed, MoveEdges, LedMoveReady, DelayEdges, LedDelayReady, TriedOne, Tried, MoveByte, OnlyByte, IsFound, StepReady, AlongReady, FromReady, FromDone, LingerReady, LingerTried};
-ghost use Rattle.space.specs.Images.{ImageReady};
+ghost use Rattle.table.specs.Meaning.{namedTimers};
+ghost use Rattle.space.specs.Images.{ImageReady, Images, ImageDone};
 use regions::Region;
 use regions::nodes;
 use regions::nodes::NodeRegion;
@@ -194,7 +195,7 @@ fn corners_after(moved: Region) -> u32
 // What the resets of a byte do, in one word: the node of mode 0 to which they take corner 0, and the map above its 16 bits.
 fn image_of(space: Space, at: NodeRegion, resets: u8) -> u32
     requires { ⌜ ImageReady space at resets ⌝ }
-    ensures { λ r. ⌜ IsImage space at resets r ⌝ }
+    ensures { λ r. ⌜ IsImage space at (namedTimers resets) r ⌝ }
 {
     let region = at.region;
     let ceilings = space.ceilings;
@@ -205,18 +206,15 @@ fn image_of(space: Space, at: NodeRegion, resets: u8) -> u32
 
 // It is found once for each reset byte, as in the search: a place has many moves to try, and there are eight of these bytes.
 fn image(images: &mut [u32; 8], space: Space, at: NodeRegion, resets: u8) -> u32
-    requires { ⌜ ImageReady space at resets × Images space at (now images) ⌝ }
-    ensures { λ r. ⌜ ImageDone space at resets (now (images .exit)) r ⌝ }
+    requires { ⌜ ImageReady space at resets × Images (IsImage space at) (now images) ⌝ }
+    ensures { λ r. ⌜ ImageDone (IsImage space at) resets (now (images .exit)) r ⌝ }
 {
     let k = (resets % 8) as usize;
-    if images[k] == NO_IMAGE {
+    if images[k] == moves::NO_IMAGE {
         images[k] = image_of(space, at, resets);
     }
     images[k]
 }
-
-// No image has more than 24 bits.
-const NO_IMAGE: u32 = 0xFFFF_FFFF;
 
 // Tries the step of a move that is allowed. The image is that of its reset byte: the target mode's nodes come so many blocks behind those of mode 0.
 fn along_move(
@@ -265,7 +263,7 @@ fn by_move(
     }
     let region = at.region;
     let halves = region.halves();
-    let mut images = [NO_IMAGE; 8];
+    let mut images = [moves::NO_IMAGE; 8];
     let mut e = move_from(rules, halves, at.mode, stand.byte);
     while e < rules::NONE {
         let by_resets = image(&mut images, space, at, table::resets(table, e));

@@ -6,18 +6,21 @@ use borrow.Author.Needs.{needs}
 use denote.Ref.{now}
 use Rattle.space.specs.Moves.{NextFrom, OpenMove}
 use Rattle.space.specs.Space.{placeAt}
+use Rattle.space.specs.Images.{Images}
+use Rattle.space.specs.Laws.Images.{images-none}
 use Rattle.space.proofs.Settings.{place-half-room}
 use Rattle.space.proofs.MovesFrom.{next-rises, next-ready, open-after}
-use Rattle.steps.specs.Images.{Images}
-use Rattle.steps.proofs.Imaged.{images-none}
+use Rattle.space.proofs.Imaging.{move-image}
+use Rattle.steps.specs.Images.{IsImage}
+use Rattle.steps.proofs.Standing.{stand-setting}
 use Rattle.steps.proofs.Trying.{tried-none}
-use Rattle.steps.proofs.PassedMoves.{SilentTo, image-ready, along-ready, silent-first, silent-next, move-found, moves-none}
+use Rattle.steps.proofs.PassedMoves.{SilentTo, along-ready, silent-first, silent-next, move-found, moves-none}
 use Rattle.steps.proofs.by_move.Statement.{statement}
 use Rattle.steps.proofs.by_move.Tie as tie
 
 abbrev Inv-loop : tie.InvT-loop
 Inv-loop words space table rules at stand halves images₀ e₀ images e =
-    OpenMove table rules halves (at .mode) e × SilentTo table space stand words e × Images space at images
+    OpenMove table rules halves (at .mode) e × SilentTo table space stand words e × Images (IsImage space at) images
 
 abbrev μ-loop : tie.MeasureT-loop
 μ-loop words space table rules at stand halves images₀ e₀ images e = 64 - e
@@ -47,7 +50,7 @@ loop-holds c =
     let first =
     c .move-from .ensures (now (s .args .table))
     (w .ready .setting .is-table, s .pre .1, w .here .corner .place .in-modes, omega (arith, c .before .before .before .if1 .left)) in
-    (first .move, silent-first (s .pre .0) (s .pre .1) (c .before .halves .ensures) first, images-none _ _)
+    (first .move, silent-first (s .pre .0) (s .pre .1) (c .before .halves .ensures) first, images-none _)
 
 -- In a turn: what was known at the start.
 abbrev stood : tie.In-loop Inv-loop μ-loop → tie.After-halves Inv-loop μ-loop
@@ -66,7 +69,7 @@ image-requires c κs =
     let l = c .before .before in
     let s = start l in
     let inv = l .before .loop .inv in
-    (image-ready (s .pre .0) (s .pre .1) (stood l .halves .ensures) (inv .0) (l .loop-test .taken) (c .resets .ensures), inv .2)
+    (move-image (stand-setting (s .pre .0) (s .pre .1)) (s .pre .0 .here .corner) (inv .0) (l .loop-test .taken) (c .resets .ensures), inv .2)
 
 along-move-requires : tie.Need-along-move-requires Inv-loop μ-loop
 along-move-requires c κs =

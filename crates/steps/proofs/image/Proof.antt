@@ -4,15 +4,16 @@ use mathlib.Core.Logic.{⊎-elim}
 use Prim.Native.Nat.{_%_}
 use borrow.Author.Needs.{needs}
 use lib.ListN.{getD}
-use Rattle.steps.specs.Images.{ImageDone}
-use Rattle.steps.proofs.Imaged.{image-kept, image-stored}
+use Rattle.space.specs.Images.{ImageDone}
+use Rattle.space.specs.Laws.Images.{image-kept, image-stored}
+use Rattle.steps.specs.Images.{IsImage}
 use Rattle.steps.proofs.image.Statement.{statement}
 use Rattle.steps.proofs.image.Tie as tie
 
 -- The array after the test, with what is read from it.
 done :
     (c : tie.Joined1)
-    → ImageDone (c .before .before .args .space) (c .before .before .args .at) (c .before .before .args .resets) (c .if1 .images)
+    → ImageDone (IsImage (c .before .before .args .space) (c .before .before .args .at)) (c .before .before .args .resets) (c .if1 .images)
     (getD (c .if1 .images) (c .before .before .args .resets % 8) 0)
 done c =
     let s = c .before .before in

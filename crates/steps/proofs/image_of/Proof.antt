@@ -2,7 +2,8 @@
 -- Assumes nothing.
 use native.Mathlib.Omega.{arith}
 use borrow.Author.Needs.{needs}
-use Rattle.steps.proofs.Imaged.{image-region, image-asks, image-few, image-made}
+use Rattle.space.proofs.Imaging.{moved-ready}
+use Rattle.steps.proofs.Imaged.{image-region, image-few, image-made}
 use Rattle.steps.proofs.image_of.Statement.{statement}
 use Rattle.steps.proofs.image_of.Tie as tie
 
@@ -13,7 +14,7 @@ abbrev start : tie.After-reset-all → tie.Start
 start c = c .before .before .before
 
 node-of-requires : tie.Need-node-of-requires
-node-of-requires c κs = image-asks (start c .pre) (c .reset-all .result) (c .reset-all .ensures)
+node-of-requires c κs = moved-ready (start c .pre) (c .reset-all .ensures) 0 (omega arith)
 
 cast-first : tie.Need-cast-first
 cast-first c =

@@ -5,15 +5,16 @@ use Prim.Native.Nat.{_%_}
 use native.Mathlib.Omega.{arith}
 use borrow.Author.Needs.{needs}
 use lib.ListN.{getD}
-use Rattle.space.specs.Images.{ImageDone}
-use Rattle.space.proofs.Imaging.{image-few, image-kept, image-stored}
+use Rattle.space.specs.Images.{NodeImage, ImageDone}
+use Rattle.space.specs.Laws.Images.{image-kept, image-stored}
+use Rattle.space.proofs.Imaging.{image-few}
 use Rattle.search.proofs.edges.image.Statement.{statement}
 use Rattle.search.proofs.edges.image.Tie as tie
 
 -- The array after the test, with what is read from it.
 done :
     (c : tie.Joined1)
-    → ImageDone (c .before .before .args .space) (c .before .before .args .at) (c .before .before .args .resets) (c .if1 .images)
+    → ImageDone (NodeImage (c .before .before .args .space) (c .before .before .args .at)) (c .before .before .args .resets) (c .if1 .images)
     (getD (c .if1 .images) (c .before .before .args .resets % 8) 0)
 done c =
     let s = c .before .before in

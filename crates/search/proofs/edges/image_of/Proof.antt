@@ -4,8 +4,8 @@ use native.Mathlib.Omega.{arith}
 use borrow.Author.Needs.{needs}
 use Prim.Native.Nat.{_+_, _<_}
 use Rattle.space.specs.Laws.Shares.{block-within}
-use Rattle.space.proofs.Settings.{place-mode, top-seen, top-below, node-ready, corner-below}
-use Rattle.space.proofs.Imaging.{unmoved-image, moved-gives, moved-timers, moved-first, moved-corner, moved-number}
+use Rattle.space.proofs.Settings.{place-mode, top-seen, top-below, corner-below}
+use Rattle.space.proofs.Imaging.{unmoved-image, moved-gives, moved-first, moved-corner, moved-ready, moved-number}
 use Rattle.search.proofs.edges.image_of.Statement.{statement}
 use Rattle.search.proofs.edges.image_of.Tie as tie
 
@@ -57,9 +57,7 @@ node-of-requires c κs =
     let moved = c .before .before .before in
     let pre = start moved .pre in
     let is = moved .reset-all .ensures in
-    let valid = moved-gives pre is .valid in
-    node-ready (pre .setting .is-table) (pre .setting .is-space) _ (moved-timers pre is) _ _ valid
-    (omega (arith, top-seen _ valid, c .before .top .ensures, c .last-at-most .ensures .within)) (omega arith)
+    moved-ready pre is _ (omega (arith, top-seen _ (moved-gives pre is .valid), c .before .top .ensures, c .last-at-most .ensures .within))
 
 returns-2 : tie.Need-returns-2
 returns-2 c =

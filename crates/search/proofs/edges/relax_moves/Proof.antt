@@ -10,21 +10,22 @@ use Rattle.regions.specs.Held.{view}
 use Rattle.rules.specs.Rules.{FirstFrom}
 use Rattle.space.specs.Moves.{OpenMove, OpenFrom}
 use Rattle.space.specs.Space.{placeAt}
-use Rattle.space.specs.Images.{ImageReady, Images}
+use Rattle.space.specs.Images.{NodeImage, ImageReady, Images}
 use Rattle.space.specs.Laws.Shares.{few-modes, block-within}
+use Rattle.space.specs.Laws.Images.{images-none}
 use Rattle.space.proofs.Settings.{place-mode, place-half-room, halvesOf}
-use Rattle.space.proofs.Imaging.{images-none}
+use Rattle.space.proofs.Imaging.{move-image}
 use Rattle.space.proofs.MoveEdges.{moveEdge}
 use Rattle.space.proofs.MovesFrom.{first-begins, first-ready, next-open, next-ready, open-after}
 use Rattle.search.specs.Edges.{Holding}
 use Rattle.search.proofs.Offers.{hold-again}
-use Rattle.search.proofs.MoveRelaxing.{MovesTo, moves-none, moves-all, move-image, move-node, move-inside, move-sum, move-ready, moves-more}
+use Rattle.search.proofs.MoveRelaxing.{MovesTo, moves-none, moves-all, move-node, move-inside, move-sum, move-ready, moves-more}
 use Rattle.search.proofs.edges.relax_moves.Statement.{statement}
 use Rattle.search.proofs.edges.relax_moves.Tie as tie
 
 abbrev Inv-loop : tie.InvT-loop
 Inv-loop words₀ space table rules from at halves block images₀ e₀ words images e =
-    OpenMove table rules halves (from .at .mode) e × Images space (from .at) images × MovesTo table space from e words₀ words
+    OpenMove table rules halves (from .at .mode) e × Images (NodeImage space (from .at)) images × MovesTo table space from e words₀ words
 
 abbrev μ-loop : tie.MeasureT-loop
 μ-loop words₀ space table rules from at halves block images₀ e₀ words images e = 64 - e
@@ -60,7 +61,7 @@ ready :
 ready c =
     let t = c .before .before .before in
     let s = start t in
-    move-image (s .pre .0 .setting) (s .args .from) (s .pre .0 .corner) _ (stand t) _ (t .loop-test .taken) (here t) _ (c .resets .ensures)
+    move-image (s .pre .0 .setting) (s .pre .0 .corner) (here t) (t .loop-test .taken) (c .resets .ensures)
 
 abbrev turn : tie.After-image Inv-loop μ-loop → tie.In-loop Inv-loop μ-loop
 turn c = c .before .before .before .before
@@ -122,7 +123,7 @@ loop-holds : tie.Need-loop-holds Inv-loop μ-loop
 loop-holds c =
     let s = c .before .before .before .before .before .before .before in
     let f = next-open (begins (c .before)) (c .next-move .ensures _ (first-ready (s .pre .0 .setting .is-rules) (begins (c .before)))) in
-    (f .move, images-none _ _, moves-none (s .pre .0 .setting) (s .args .from) (s .pre .0 .corner) _ (c .before .before .before .halves .ensures) _ f (now (s .args .words)))
+    (f .move, images-none _, moves-none (s .pre .0 .setting) (s .args .from) (s .pre .0 .corner) _ (c .before .before .before .halves .ensures) _ f (now (s .args .words)))
 
 target-requires : tie.Need-target-requires Inv-loop μ-loop
 target-requires c κs = (start c .pre .0 .setting .is-table, here c .there (c .loop-test .taken))

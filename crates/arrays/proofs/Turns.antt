@@ -3,13 +3,15 @@
 use mathlib.Core.Path.{_≡_, refl, ap, _∙_}
 use mathlib.Core.Bool.{Bool, true, false, cond}
 use mathlib.Core.List.{List, [], _∷_}
-use Prim.Native.Nat.{ℕ, zero, suc, _+_, _<_}
+use Prim.Native.Nat.{ℕ, zero, suc, _+_, _≤_, _<_}
 use native.Mathlib.Nat.{le-of-suc-le-suc, not-suc-le-zero}
 use native.Mathlib.Numerals.{add-one}
 use borrow.Author.Tests.{eq-eqb, ne-eqb}
 use lib.Dec.{eqb}
 use lib.ListN.{length, getD, take, set}
+use lib.Seq.{length-take-le, getD-take}
 use Rattle.semantics.specs.Region.{count}
+use Rattle.semantics.specs.Regions.Count.{count-pos}
 use Rattle.arrays.specs.Arrays.{mapTo}
 
 mapTo-suc : (f : ℕ → ℕ) (i : ℕ) (l : List ℕ) → i < length l → set (mapTo f i l) i (f (getD l i 0)) ≡ mapTo f (suc i) l
@@ -44,3 +46,7 @@ count-hit g i l h e = simp (add-one, count-suc g i l h, eq-eqb _ _ e)
 -- One more entry is looked at, and it is not g.
 pub count-miss : (g i : ℕ) (l : List ℕ) → i < length l → (getD l i 0 ≡ g → ⊥) → count g (take i l) ≡ count g (take (i + 1) l)
 count-miss g i l h e = simp (add-one, count-suc g i l h, ne-eqb _ _ e)
+
+-- One of the first n entries is g.
+pub count-found : (g i n : ℕ) (l : List ℕ) → i < n → n ≤ length l → getD l i 0 ≡ g → 0 < count g (take n l)
+count-found g i n l h m e = count-pos g i (take n l) (rw (length-take-le n l m) h) (getD-take n l i 0 h ∙ e)

@@ -34,6 +34,22 @@ pub fn count_of(group: [u8; MOST_TIMERS], n: usize, g: u8) -> usize
     found
 }
 
+// Whether none of the first n groups is 0.
+pub fn none_zero(group: [u8; MOST_TIMERS], n: usize) -> bool
+    requires { ⌜ n ≤ mostTimers ⌝ }
+    ensures { λ r. ⌜ r ≡ eqb (count 0 (take n group)) 0 ⌝ }
+{
+    for i in 0..MOST_TIMERS {
+        if n <= i {
+            return true;
+        }
+        if group[i] == 0 {
+            return false;
+        }
+    }
+    true
+}
+
 // Each of the first n groups is one higher.
 pub fn raised(group: [u8; MOST_TIMERS], n: usize) -> [u8; MOST_TIMERS]
     requires { ⌜ (n ≤ mostTimers) × ((i : ℕ) → getD group i 0 < 255) ⌝ }

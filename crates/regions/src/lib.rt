@@ -191,7 +191,7 @@ impl Region {
         ensures { λ r. ⌜ r ≡ noZero (view self) ⌝ }
     {
         let group = self.group;
-        arrays::count_of(group, self.timers as usize, 0) == 0
+        arrays::none_zero(group, self.timers as usize)
     }
 
     // "Delay, r0 not empty: every group moves up one place, r0 is empty, and c0 + rate is added at the end."

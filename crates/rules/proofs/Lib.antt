@@ -5,5 +5,6 @@ pub mod Narrowing
 pub mod Writing
 pub mod Filling
 pub mod Joining
+pub mod Capping
 pub mod Ordering
 pub mod Whole

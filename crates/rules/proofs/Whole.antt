@@ -10,8 +10,8 @@ use Rattle.semantics.specs.Automaton.{Mode, Move, modeAt, moveAt}
 use Rattle.table.specs.Meaning.{conditionsFrom}
 use Rattle.table.specs.Held.{automatonOf, IsTable}
 use Rattle.table.specs.Theorems.Access.{mode-count, move-count, mode-at, move-at, target-below}
-use Rattle.rules.specs.Rules.{none, targetConditions, IsRow, IsMoveRow, IsRules}
-use Rattle.rules.specs.Making.{Wrote, conditionBytes, FilledRows, JoinedRows, OrderedFrom}
+use Rattle.rules.specs.Rules.{capped, none, targetConditions, IsModeRow, IsMoveRow, IsRules}
+use Rattle.rules.specs.Making.{Wrote, conditionBytes, IsRow, FilledRows, JoinedRows, CappedRows, OrderedFrom}
 use Rattle.rules.proofs.Filling.{row-kept}
 use Rattle.rules.proofs.Ordering.{modes-few, moves-few}
 
@@ -33,13 +33,14 @@ module _ (t : List ℕ) (table : IsTable t) where
       ∙ ap (λ (u : List ℕ). conditionsFrom 0 (take 6 u)) (sym (drop-drop 4 (136 + 12 * e) t))
       ∙ sym (ap (λ (o : Move). o .conditions) (move-at t e (omega (arith, move-count t table))))
 
-  -- From zeros: the rows of the modes, those of the moves, these joined with their targets', no first move, and the moves in their order.
-  module _ (zeros filled full joined empty rules : List ℕ) (zero-there : (j : ℕ) → getD zeros j 0 ≡ 0) (long : length zeros ≡ 560)
+  -- From zeros: the rows of the modes, those of the moves, these joined with their targets', the modes' with the ceilings, no first move, and the moves in their order.
+  module _ (zeros filled full joined ended empty rules : List ℕ) (zero-there : (j : ℕ) → getD zeros j 0 ≡ 0) (long : length zeros ≡ 560)
       (modes moves : ℕ) (modes-are : modes ≡ length (automatonOf t .modes)) (moves-are : moves ≡ length (automatonOf t .moves))
       (invariants : FilledRows (conditionBytes t 10 8) modes 0 zeros filled) (guards : FilledRows (conditionBytes t 140 12) moves 16 filled full)
-      (joins : JoinedRows (automatonOf t) (length (automatonOf t .moves)) full joined) (cleared : Wrote (λ m. none) 480 modes joined empty)
+      (joins : JoinedRows (automatonOf t) (length (automatonOf t .moves)) full joined) (caps : CappedRows (automatonOf t .ceilings) modes joined ended)
+      (cleared : Wrote (λ m. none) 480 modes ended empty)
       (ordered : OrderedFrom (automatonOf t) 0 empty rules) where
-    row-byte : (j : ℕ) → j < 480 → getD rules j 0 ≡ getD joined j 0
+    row-byte : (j : ℕ) → j < 480 → getD rules j 0 ≡ getD ended j 0
     row-byte j l = ordered .before j l ∙ cleared .before j l
 
     mode-full : (m : ℕ) → m < length (automatonOf t .modes) → IsRow full m (modeAt (automatonOf t) m .conditions)
@@ -49,13 +50,24 @@ module _ (t : List ℕ) (table : IsTable t) where
         rw (mode-conditions m l) at
         (row-kept (conditionsFrom 0 (take 6 (drop (10 + 8 * m) t))) m filled full (λ j a b. guards .before j (omega (arith, modes-few t table))) there)
 
-    mode-row : (m : ℕ) → m < length (automatonOf t .modes) → IsRow rules m (modeAt (automatonOf t) m .conditions)
+    mode-row : (m : ℕ) → m < length (automatonOf t .modes) → IsModeRow (automatonOf t) m rules
     mode-row m l =
-        row-kept (modeAt (automatonOf t) m .conditions) m full rules
-        (λ j a b. row-byte j (omega (arith, modes-few t table)) ∙ joins .before j (omega (arith, modes-few t table))) (mode-full m l)
+        let few = modes-few t table in
+        let own = mode-full m l in
+        let caps-own = caps .there m (omega arith) in
+        record {
+          low = λ x h.
+              row-byte (6 * m + 2 * x) (omega arith) ∙ caps-own .low x h ∙ joins .before (6 * m + 2 * x) (omega arith) ∙ own .low x h;
+          high = λ x h.
+              row-byte (6 * m + 2 * x + 1) (omega arith) ∙ caps-own .high x h
+              ∙ ap (λ (high : ℕ). capped high (getD (automatonOf t .ceilings) x 0)) (joins .before (6 * m + 2 * x + 1) (omega arith) ∙ own .high x h);
+        }
 
     move-full : (e : ℕ) → e < length (automatonOf t .moves) → IsRow full (16 + e) (moveAt (automatonOf t) e .conditions)
     move-full e l = rw (move-conditions e l) at (guards .there e (omega arith))
+
+    move-byte : (j : ℕ) → 96 ≤ j → j < 480 → getD rules j 0 ≡ getD joined j 0
+    move-byte j l u = row-byte j u ∙ caps .behind j (omega (arith, modes-few t table))
 
     move-row : (e : ℕ) → e < length (automatonOf t .moves) → IsMoveRow (automatonOf t) e rules
     move-row e l =
@@ -63,22 +75,23 @@ module _ (t : List ℕ) (table : IsTable t) where
         let target : IsRow full (moveAt (automatonOf t) e .target) (targetConditions (automatonOf t) e) = mode-full _ (target-below t table e l) in
         record {
           low = λ x h.
-              row-byte (6 * (16 + e) + 2 * x) (omega (arith, moves-few t table)) ∙ joins .there e l .low x h ∙ rw (own .low x h, target .low x h);
+              move-byte (6 * (16 + e) + 2 * x) (omega arith) (omega (arith, moves-few t table)) ∙ joins .there e l .low x h ∙ rw (own .low x h, target .low x h);
           high = λ x h.
-              row-byte (6 * (16 + e) + 2 * x + 1) (omega (arith, moves-few t table)) ∙ joins .there e l .high x h
+              move-byte (6 * (16 + e) + 2 * x + 1) (omega arith) (omega (arith, moves-few t table)) ∙ joins .there e l .high x h
               ∙ rw (own .high x h, target .low x h, target .high x h);
         }
 
     -- What is behind all rows was 0, and so was what is between those of the modes and those of the moves.
-    behind-rows : (j : ℕ) → 6 * (16 + moves) ≤ j → getD joined j 0 ≡ 0
-    behind-rows j l = joins .behind j (omega arith) ∙ guards .behind j l ∙ invariants .behind j (omega (arith, modes-few t table)) ∙ zero-there j
+    behind-rows : (j : ℕ) → 6 * (16 + moves) ≤ j → getD ended j 0 ≡ 0
+    behind-rows j l =
+        caps .behind j (omega (arith, modes-few t table)) ∙ joins .behind j (omega arith) ∙ guards .behind j l ∙ invariants .behind j (omega (arith, modes-few t table)) ∙ zero-there j
 
-    between-rows : (j : ℕ) → 6 * modes ≤ j → j < 96 → getD joined j 0 ≡ 0
-    between-rows j l u = joins .before j u ∙ guards .before j u ∙ invariants .behind j (omega arith) ∙ zero-there j
+    between-rows : (j : ℕ) → 6 * modes ≤ j → j < 96 → getD ended j 0 ≡ 0
+    between-rows j l u = caps .behind j l ∙ joins .before j u ∙ guards .before j u ∙ invariants .behind j (omega arith) ∙ zero-there j
 
     pub is-rules : IsRules t rules
     is-rules = record {
-      size = ordered .size ∙ cleared .size ∙ joins .size ∙ guards .size ∙ invariants .size ∙ long;
+      size = ordered .size ∙ cleared .size ∙ caps .size ∙ joins .size ∙ guards .size ∙ invariants .size ∙ long;
       invariants = mode-row;
       guards = move-row;
       first = ordered .first;

@@ -10,7 +10,7 @@ use Rattle.semantics.specs.Automaton.{Automaton, moveAt}
 use Rattle.semantics.specs.Run.{among}
 use Rattle.semantics.specs.Regions.Windows.{lowest, above}
 use Rattle.table.specs.Meaning.{stands, conditionsFrom}
-use Rattle.rules.specs.Rules.{lowOf, highOf, joinedLow, joinedHigh, lowAt, highAt, firstOf, afterOf, FirstFrom, IsRow}
+use Rattle.rules.specs.Rules.{lowOf, highOf, joinedLow, joinedHigh, capped, lowAt, highAt, firstOf, afterOf, FirstFrom}
 
 -- The six bytes of a row.
 abbrev pub rowOf : List Condition → List ℕ
@@ -32,6 +32,11 @@ pub record Wrote (f : ℕ → ℕ) (at count : ℕ) (rs rs′ : List ℕ) : Type
 -- The six condition bytes of record k, of those whose conditions begin at a place and stand so far apart.
 abbrev pub conditionBytes : List ℕ → ℕ → ℕ → ℕ → List ℕ
 conditionBytes t at stride k = take 6 (drop (at + stride * k) t)
+
+-- The row has the windows of the conditions.
+pub record IsRow (rs : List ℕ) (row : ℕ) (cs : List Condition) : Type 0 where
+  pub low : (x : ℕ) → x < 3 → lowAt rs row x ≡ lowOf cs x
+  pub high : (x : ℕ) → x < 3 → highAt rs row x ≡ highOf cs x
 
 -- The rows from `row` on have the windows of so many records' bytes, and all else is as in rs.
 pub record FilledRows (bytes : ℕ → List ℕ) (count row : ℕ) (rs rs′ : List ℕ) : Type 0 where
@@ -58,6 +63,24 @@ pub record JoinedRows (a : Automaton) (count : ℕ) (rs rs′ : List ℕ) : Type
   pub there : (e : ℕ) → e < count → Joins (λ x. among x (moveAt a e .resets)) (16 + e) (moveAt a e .target) 3 rs rs′
   pub before : (j : ℕ) → j < 96 → getD rs′ j 0 ≡ getD rs j 0
   pub behind : (j : ℕ) → 6 * (16 + count) ≤ j → getD rs′ j 0 ≡ getD rs j 0
+
+-- The windows of a row end above the ceilings at the latest, of the timers before `count`.
+pub record Caps (ceilings : List ℕ) (row count : ℕ) (rs rs′ : List ℕ) : Type 0 where
+  pub low : (x : ℕ) → x < count → lowAt rs′ row x ≡ lowAt rs row x
+  pub high : (x : ℕ) → x < count → highAt rs′ row x ≡ capped (highAt rs row x) (getD ceilings x 0)
+
+-- And all else is as in rs.
+pub record CappedRow (ceilings : List ℕ) (row count : ℕ) (rs rs′ : List ℕ) : Type 0 where
+  pub size : length rs′ ≡ length rs
+  pub there : Caps ceilings row count rs rs′
+  pub before : (j : ℕ) → j < 6 * row → getD rs′ j 0 ≡ getD rs j 0
+  pub behind : (j : ℕ) → 6 * row + 2 * count ≤ j → getD rs′ j 0 ≡ getD rs j 0
+
+-- So do those of so many rows, and all else is as in rs.
+pub record CappedRows (ceilings : List ℕ) (count : ℕ) (rs rs′ : List ℕ) : Type 0 where
+  pub size : length rs′ ≡ length rs
+  pub there : (m : ℕ) → m < count → Caps ceilings m 3 rs rs′
+  pub behind : (j : ℕ) → 6 * count ≤ j → getD rs′ j 0 ≡ getD rs j 0
 
 -- The moves from e on stand in their order, and all else is as in rs.
 pub record OrderedFrom (a : Automaton) (e : ℕ) (rs rs′ : List ℕ) : Type 0 where

@@ -8,7 +8,7 @@ use mathlib.Core.List.{List, [], _∷_}
 use Prim.Native.Nat.{ℕ, _+_, _*_, _≤_, _<_, max, min}
 use lib.Dec.{eqb, leb, ltb}
 use lib.ListN.{length, getD}
-use Rattle.semantics.specs.Condition.{Condition}
+use Rattle.semantics.specs.Condition.{Condition, atMost}
 use Rattle.semantics.specs.Automaton.{Automaton, modeAt, moveAt}
 use Rattle.semantics.specs.Run.{among}
 use Rattle.semantics.specs.Regions.Windows.{free, lowest, above}
@@ -31,6 +31,11 @@ joinedLow reset own low = cond reset own (max own low)
 
 abbrev pub joinedHigh : Bool → ℕ → ℕ → ℕ → ℕ
 joinedHigh reset own low high = cond reset (cond (leb low 0 && ltb 0 high) own 0) (min own high)
+
+-- "Allowed if the new region meets the mode's conditions and every ceiling": the window of a mode's conditions ends above the ceiling at the latest.
+-- A timer that is not there stands at 0, and 0 is read for its ceiling.
+abbrev pub capped : ℕ → ℕ → ℕ
+capped high ceiling = min high (above atMost ceiling)
 
 -- Rows of six bytes, the modes' from row 0 on and the moves' from row 16 on. Of timer x the lowest place in its window stands at 2x, and the first
 -- above it that is outside at 2x + 1.
@@ -62,10 +67,10 @@ pub record FirstFrom (a : Automaton) (m e r : ℕ) : Type 0 where
   pub there : r < none → (r < length (a .moves)) × (moveAt a r .source ≡ m)
   pub none-before : (k : ℕ) → e ≤ k → k < r → k < length (a .moves) → moveAt a k .source ≢ m
 
--- The row has the windows of the conditions.
-pub record IsRow (rs : List ℕ) (row : ℕ) (cs : List Condition) : Type 0 where
-  pub low : (x : ℕ) → x < 3 → lowAt rs row x ≡ lowOf cs x
-  pub high : (x : ℕ) → x < 3 → highAt rs row x ≡ highOf cs x
+-- The row of mode m has the windows of its conditions, with the ceilings.
+pub record IsModeRow (a : Automaton) (m : ℕ) (rs : List ℕ) : Type 0 where
+  pub low : (x : ℕ) → x < 3 → lowAt rs m x ≡ lowOf (modeAt a m .conditions) x
+  pub high : (x : ℕ) → x < 3 → highAt rs m x ≡ capped (highOf (modeAt a m .conditions) x) (getD (a .ceilings) x 0)
 
 -- The conditions of the mode that a move leads to.
 abbrev pub targetConditions : Automaton → ℕ → List Condition
@@ -84,7 +89,7 @@ pub record IsMoveRow (a : Automaton) (e : ℕ) (rs : List ℕ) : Type 0 where
 -- The bytes are the rules of the table t. What is behind the last mode, and behind the last move, is 0.
 pub record IsRules (t rs : List ℕ) : Type 0 where
   pub size : length rs ≡ 560
-  pub invariants : (m : ℕ) → m < length (automatonOf t .modes) → IsRow rs m (modeAt (automatonOf t) m .conditions)
+  pub invariants : (m : ℕ) → m < length (automatonOf t .modes) → IsModeRow (automatonOf t) m rs
   pub guards : (e : ℕ) → e < length (automatonOf t .moves) → IsMoveRow (automatonOf t) e rs
   pub first : (m : ℕ) → m < length (automatonOf t .modes) → FirstFrom (automatonOf t) m 0 (firstOf rs m)
   pub after : (e : ℕ) → e < length (automatonOf t .moves) → FirstFrom (automatonOf t) (moveAt (automatonOf t) e .source) (e + 1) (afterOf rs e)

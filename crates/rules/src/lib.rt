@@ -15,7 +15,7 @@ mod rows;
 mod windows;
 
 // A row of six bytes for each of 16 modes and then for each of 64 moves: for each of three timers the lowest place at which its conditions hold,
-// and the first above it at which they do not. In a move's row those of its target are joined to its own.
+// and the first above it at which they do not. In a move's row those of its target are joined to its own, and in a mode's the ceilings.
 const ROW: usize = 6;
 
 // The row of move 0.
@@ -56,6 +56,7 @@ pub fn make(table: &[u8; TABLE], rules: &mut [u8; RULES])
         GUARDS,
     );
     rows::join(table, rules);
+    rows::cap(table, rules, modes);
     order::no_moves(rules, modes);
     order::order(table, rules);
 }

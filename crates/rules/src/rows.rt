@@ -1,14 +1,15 @@
-// The rows of windows, made of the condition bytes that stand in the records of a table.
+// The rows of windows, made of the condition bytes that stand in the records of a table, and of its ceilings.
 ghost use mathlib.Core.Path.{_≡_};
 ghost use Prim.Native.Nat.{ℕ, _+_, _*_, _<_, _≤_};
 ghost use lib.ListN.{length, getD, take, drop};
 ghost use Rattle.table.specs.Held.{automatonOf, IsTable};
-ghost use Rattle.rules.specs.Making.{conditionBytes, FilledRows, JoinedRow, JoinedRows, Wrote};
+ghost use Rattle.rules.specs.Making.{conditionBytes, FilledRows, JoinedRow, JoinedRows, CappedRow, CappedRows, Wrote};
 use crate::GUARDS;
 use crate::ROW;
 use crate::RULES;
 use crate::windows::joined_high;
 use crate::windows::joined_low;
+use crate::windows::smaller;
 use crate::windows::windows;
 use table::MOST_TIMERS;
 use table::TABLE;
@@ -66,6 +67,28 @@ fn join_row(rules: &mut [u8; RULES], row: usize, target: usize, resets: u8)
         let high = joined_high(reset, rules[at + 1], rules[from], rules[from + 1]);
         rules[at] = low;
         rules[at + 1] = high;
+    }
+}
+
+// The windows of each mode's row end above the ceilings, so that one test of the row tells whether a delay is allowed.
+pub fn cap(table: &[u8; TABLE], rules: &mut [u8; RULES], modes: usize)
+    requires { ⌜ IsTable (now table) × (length (now rules) ≡ 560) × (modes ≤ 16) ⌝ }
+    ensures { λ _. ⌜ CappedRows (automatonOf (now (table .entry)) .ceilings) modes (now (rules .entry)) (now (rules .exit)) ⌝ }
+{
+    let ceilings = table::ceilings(table);
+    for mode in 0..modes {
+        cap_row(rules, mode, ceilings);
+    }
+}
+
+// Ends a row's windows above the ceilings, timer by timer. A ceiling is at an even place, and the first place above it is the next.
+fn cap_row(rules: &mut [u8; RULES], row: usize, ceilings: [u8; MOST_TIMERS])
+    requires { ⌜ (length (now rules) ≡ 560) × (row < 80) × ((i : ℕ) → getD ceilings i 0 ≤ 15) ⌝ }
+    ensures { λ _. ⌜ CappedRow ceilings row 3 (now (rules .entry)) (now (rules .exit)) ⌝ }
+{
+    for timer in 0..MOST_TIMERS {
+        let at = ROW * row + 2 * timer + 1;
+        rules[at] = smaller(rules[at], 2 * ceilings[timer] + 1);
     }
 }
 

@@ -9,8 +9,7 @@ use native.Mathlib.Decide.{ℕ-discrete}
 use native.Mathlib.Omega.{arith}
 use borrow.Author.Tests.{eq-eqb, ne-eqb, eqb-true, le-leb, lt-leb}
 use lib.Dec.{eqb, leb}
-use lib.ListN.{length, set, drop}
-use lib.Seq.{set-getD}
+use lib.ListN.{length, drop}
 use Rattle.semantics.specs.Order.{Cost, cost}
 use Rattle.semantics.specs.Graph.Path.{Entry, unreached, reached, infinity, chargeAt, stepsAt}
 use Rattle.semantics.specs.Graph.Distance.{entryWords}
@@ -140,13 +139,9 @@ module _ (nodes : ℕ) (best : CostHeld) (v : ℕ) (ws ws′ : List ℕ) (room :
         (λ q. table-unreached (lows nodes ws) v (sym own-charge ∙ q))
         (λ n. table-reached (lows nodes ws) v (λ q. n (own-charge ∙ q)) ∙ ap₂ (λ (x y : ℕ). reached (cost x y)) (sym own-charge) (sym own-steps))
 
-    -- It is near: its slot goes.
-    pub keeping-near : isNear charge steps best ≡ true → Keeping nodes best (v + 1) ws (set ws′ (2 * v + 1) steps)
-    keeping-near q =
-        let e : charge ∷ steps ∷ [] ≡ entryWords (near (costEntry best) (costsIn nodes ws v)) = sym (left ∙ rw q refl) in
-        let same : set ws′ (2 * v) charge ≡ ws′ = ap (set ws′ (2 * v)) charge-is ∙ set-getD ws′ (2 * v) 0 in
-        rw same at (keeping-next (cost charge steps) e)
-
-    -- It is not.
-    pub keeping-far : isNear charge steps best ≡ false → Keeping nodes best (v + 1) ws (stored ws′ v (cost infinity infinity))
-    keeping-far q = keeping-next (cost infinity infinity) (sym (left ∙ rw q refl))
+    -- The words that are stored are by the test.
+    pub keeping-chosen :
+        (b : Bool) → isNear charge steps best ≡ b
+        → Keeping nodes best (v + 1) ws (stored ws′ v (cost (cond b charge infinity) (cond b steps infinity)))
+    keeping-chosen true q = keeping-next (cost charge steps) (sym (left ∙ rw q refl))
+    keeping-chosen false q = keeping-next (cost infinity infinity) (sym (left ∙ rw q refl))

@@ -1,7 +1,7 @@
 -- Linger and then delay from the node in hand: the tests of the code are those of the step, and after both its edges of waiting are relaxed.
 -- Assumes nothing.
-use mathlib.Core.Path.{_≡_, refl, sym, ap, _∙_}
-use mathlib.Core.Bool.{Bool, true, false, true≢false}
+use mathlib.Core.Path.{_≡_, refl, ap, _∙_}
+use mathlib.Core.Bool.{Bool, true, false}
 use mathlib.Core.Logic.{_↔_, _⊎_, inl, inr, ⊎-elim}
 use mathlib.Core.List.{List}
 use Prim.Native.Nat.{ℕ}
@@ -23,7 +23,7 @@ use Rattle.regions.specs.Held.{pack, view}
 use Rattle.space.specs.declared.Space.{Space}
 use Rattle.space.specs.Space.{graphOf, placeAt}
 use Rattle.space.proofs.Settings.{halvesOf, corner-leaves}
-use Rattle.space.proofs.Delayed.{delayed-seen, delayed-fewer, delayed-within, delayed-meets, delayed-number}
+use Rattle.space.proofs.Delayed.{delayed-seen, delayed-fewer, delayed-allowed, delayed-number}
 use Rattle.space.proofs.WaitEdges.{keep-top, delay-allowed}
 use Rattle.search.specs.declared.edges.Source.{Source}
 use Rattle.search.specs.Exploring.{relaxes-then}
@@ -39,18 +39,8 @@ pub record Looked (t : List ℕ) (z : NodeRegion) (delayed : Region) (new old ra
   pub old-is : old ≡ top (view (z .region))
   pub rate-is : rate ≡ modeAt (automatonOf t) (z .mode) .rate
 
--- And then: that region is within the ceilings, and where its timers stand.
-pub record Stands (s : Space) (delayed : Region) (hs : List ℕ) : Type 0 where
-  pub inside : within (take (delayed .timers) (s .ceilings)) (view delayed) ≡ true
-  pub halves-are : hs ≡ halvesOf (view delayed)
-
 module _ {t rs : List ℕ} {s : Space} {x : Source} {ws : List ℕ} (r : EdgesReady t rs s x ws) (short : Short s x) {delayed : Region} {new old rate : ℕ}
     (k : Looked t (x .at) delayed new old rate) where
-  -- The test of the ceilings.
-  within-same :
-      within (take (delayed .timers) (s .ceilings)) (view delayed) ≡ within (automatonOf t .ceilings) (delayedTo (placeAt (x .at)) .region)
-  within-same = delayed-within (r .setting) (r .corner) delayed (k .is)
-
   -- A corner is taken away just if r0 is empty.
   empty-is : ltb new old ≡ noZero (view (x .at .region))
   empty-is = go (noZero (view (x .at .region))) refl
@@ -79,20 +69,20 @@ module _ {t rs : List ℕ} {s : Space} {x : Source} {ws : List ℕ} (r : EdgesRe
     waits-none none goal h =
         relaxes-fewer IsWait (one goal h) (λ e l w. ⊎-elim (λ q. absurd (none goal e l q)) (λ q. q) (label goal e l w))
 
-    pub waits-outside : within (take (delayed .timers) (s .ceilings)) (view delayed) ≡ false → EdgesDone IsWait t s x ws ws′
-    waits-outside f =
-        waits-none
-        (λ goal e l q. true≢false (sym (delay-allowed (r .corner) goal e l q .ceilings) ∙ sym within-same ∙ f))
-
-    module _ {hs : List ℕ} (h : Stands s delayed hs) where
-      inside : within (automatonOf t .ceilings) (delayedTo (placeAt (x .at)) .region) ≡ true
-      inside = sym within-same ∙ h .inside
-
-      window : InRow rs (x .at .mode) hs ↔ (meetsAll (modeAt (automatonOf t) (x .at .mode) .conditions) (delayedTo (placeAt (x .at)) .region) ≡ true)
-      window = delayed-meets (r .setting) (r .corner) delayed (k .is) inside hs (h .halves-are)
+    -- Where its timers stand after it says whether it is.
+    module _ {hs : List ℕ} (are : hs ≡ halvesOf (view delayed)) where
+      window :
+          InRow rs (x .at .mode) hs
+          ↔ ((meetsAll (modeAt (automatonOf t) (x .at .mode) .conditions) (delayedTo (placeAt (x .at)) .region) ≡ true)
+          × (within (automatonOf t .ceilings) (delayedTo (placeAt (x .at)) .region) ≡ true))
+      window = delayed-allowed (r .setting) (r .corner) delayed (k .is) hs are
 
       pub waits-unmet : (InRow rs (x .at .mode) hs → ⊥) → EdgesDone IsWait t s x ws ws′
-      waits-unmet unmet = waits-none (λ goal e l q. unmet (window .1 (delay-allowed (r .corner) goal e l q .conditions)))
+      waits-unmet unmet =
+          waits-none
+          (λ goal e l q.
+          let allowed = delay-allowed (r .corner) goal e l q in
+          unmet (window .1 (allowed .conditions, allowed .ceilings)))
 
       -- Where it is, it follows.
       module _ (met : InRow rs (x .at .mode) hs) (to : ℕ)
@@ -101,8 +91,8 @@ module _ {t rs : List ℕ} {s : Space} {x : Source} {ws : List ℕ} (r : EdgesRe
         unfolding waits-ready
         delays-ready = record {
           wait = wait-again waits-ready (hold-again (r .holding) (one (r .goal) (r .holding)));
-          conditions = window .0 met;
-          ceilings = inside;
+          conditions = window .0 met .0;
+          ceilings = window .0 met .1;
           to-is = to-is ∙ delayed-number (r .setting) (r .corner) delayed (k .is);
         }
 

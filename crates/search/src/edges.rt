@@ -74,7 +74,7 @@ fn relax_delay(words: &mut [u32], nodes: usize, from: Source, to: usize, empty: 
     }
 }
 
-// The edges of delay and linger. Delay: "Allowed if the new region meets the mode's conditions and every ceiling."
+// The edges of delay and linger. Delay: "Allowed if the new region meets the mode's conditions and every ceiling." The mode's row has both.
 fn relax_waits(
     words: &mut [u32],
     space: Space,
@@ -93,9 +93,6 @@ fn relax_waits(
     // Where r0 is empty a delay takes a corner away.
     let empty = delayed.top() < region.top();
     relax_linger(words, space.nodes, from, empty, rate);
-    if !delayed.within(ceilings) {
-        return;
-    }
     if !rules::all_inside(rules, at.mode, delayed.halves()) {
         return;
     }

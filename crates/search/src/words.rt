@@ -36,12 +36,9 @@ pub fn keep_near(words: &mut [u32], nodes: usize, best: Cost)
     for v in 0..nodes {
         let charge = queue::charge_of(words, v);
         let steps = queue::steps_of(words, v);
-        if is_near(charge, steps, best) {
-            words[2 * v + 1] = steps;
-        } else {
-            words[2 * v] = INFINITY;
-            words[2 * v + 1] = INFINITY;
-        }
+        let near = is_near(charge, steps, best);
+        words[2 * v] = if near { charge } else { INFINITY };
+        words[2 * v + 1] = if near { steps } else { INFINITY };
     }
 }
 

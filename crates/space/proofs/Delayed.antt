@@ -1,6 +1,6 @@
 -- The delay of the region of a struct at the rate 0, as `Region::delay` gives it: where it leads, and by which tests it is allowed.
 -- Assumes nothing.
-use mathlib.Core.Path.{_≡_, ap, ap₂, _∙_}
+use mathlib.Core.Path.{_≡_, ap, _∙_}
 use mathlib.Core.Bool.{true}
 use mathlib.Core.Logic.{_↔_}
 use mathlib.Core.List.{List}
@@ -13,6 +13,8 @@ use Rattle.semantics.specs.Region.{PricedRegion, top, noZero, delay, meetsAll, 
 use Rattle.semantics.specs.Chain.{Place}
 use Rattle.semantics.specs.Nodes.Node.{nodeOf, nodeNumber}
 use Rattle.semantics.specs.Graph.CornerGraph.{numberOf}
+use Rattle.semantics.specs.Regions.Lengths.{delay-timers}
+use Rattle.semantics.specs.Regions.WellFormed.{delay-well-formed}
 use Rattle.semantics.specs.Regions.Windows.{half}
 use Rattle.semantics.specs.Answers.Places.{IsPlace}
 use Rattle.semantics.specs.Answers.Waiting.{delayedTo}
@@ -28,7 +30,7 @@ use Rattle.regions.specs.Laws.Chain.{Gives, delay-gives}
 use Rattle.regions.specs.Laws.Fields.{holds, prices-many}
 use Rattle.space.specs.declared.Space.{Space}
 use Rattle.space.specs.Space.{Setting, IsCorner, placeAt}
-use Rattle.space.proofs.Settings.{place-mode, place-whole-room, place-half-room, place-halves, halvesOf, halves-at, top-seen, top-below, region-ceilings, node-ready, region-number, setting-proper}
+use Rattle.space.proofs.Settings.{room-halves, halves-behind, place-mode, place-whole-room, delayed-half-room, halvesOf, halves-at, top-seen, top-below, node-ready, region-number, setting-proper}
 
 module _ {t rs : List ℕ} {s : Space} {x : NodeRegion} (setting : Setting t rs s) (k : IsCorner t x) where
   abbrev a : Automaton
@@ -69,10 +71,6 @@ module _ {t rs : List ℕ} {s : Space} {x : NodeRegion} (setting : Setting t rs 
     pub delayed-fewer : (noZero (view (x .region)) ≡ true) ↔ (top (view delayed) < top (view (x .region)))
     delayed-fewer = rw delayed-seen (empty-fewer (view (x .region)) (k .place .well-formed))
 
-    -- The test of the ceilings.
-    pub delayed-within : within (take (delayed .timers) (s .ceilings)) (view delayed) ≡ within (automatonOf t .ceilings) (delayedTo (placeAt x) .region)
-    delayed-within = ap₂ within (region-ceilings (setting .is-table) (setting .is-space) delayed timers-are) delayed-seen
-
     -- The node of its corner 0, by `node_of`.
     pub delayed-ready :
         Valid delayed × (0 ≤ delayed .top) × (x .mode < mostModes) × CeilingsFew (s .ceilings) × Padded (delayed .timers) (s .ceilings)
@@ -86,18 +84,24 @@ module _ {t rs : List ℕ} {s : Space} {x : NodeRegion} (setting : Setting t rs 
         region-number (setting .is-table) (setting .is-space) delayed timers-are (x .mode) 0
         ∙ ap (λ (r : PricedRegion). numberOf a (record { mode = x .mode; region = r }) 0) delayed-seen
 
-    module _ (inside : within (automatonOf t .ceilings) (delayedTo (placeAt x) .region) ≡ true) where
-      pub delayed-is-place : IsPlace (automatonOf t) (delayedTo (placeAt x))
-      delayed-is-place = delayed-place a (setting-proper setting) p (k .place) inside
+    -- The test of the mode's conditions and of the ceilings, by the places in half minutes.
+    pub halves-ready : Valid delayed × HalfRoom (view delayed)
+    halves-ready = (delayed-valid, rw delayed-seen (delayed-half-room t (setting .is-table) p (k .place)))
 
-      -- The test of the mode's conditions, by the places in half minutes.
-      pub halves-ready : Valid delayed × HalfRoom (view delayed)
-      halves-ready = (delayed-valid, rw delayed-seen (place-half-room t (setting .is-table) (delayedTo p) delayed-is-place))
+    behind : (i : ℕ) → timers (automatonOf t) ≤ i → half (delayedTo (placeAt x) .region) i ≡ 0
+    behind i l =
+        let sized = delay-timers (view (x .region)) 0 .whole ∙ k .place .cell .sized in
+        halves-behind (delay 0 (view (x .region))) (delay-well-formed (view (x .region)) (k .place .well-formed) 0) i (omega arith)
 
-      pub delayed-meets :
-          (hs : List ℕ) → hs ≡ halvesOf (view delayed)
-          → InRow rs (x .mode) hs ↔ (meetsAll (modeAt (automatonOf t) (x .mode) .conditions) (delayedTo (placeAt x) .region) ≡ true)
-      delayed-meets hs are =
-          mode-window t rs (setting .is-table) (setting .is-rules) (x .mode) (k .place .in-modes) (delayedTo p .region)
-          (place-halves t (setting .is-table) (delayedTo p) delayed-is-place) hs
-          (λ i h. ap (λ (l : List ℕ). getD l i 0) are ∙ halves-at (view delayed) i h ∙ ap (λ (r : PricedRegion). half r i) delayed-seen)
+    pub delayed-allowed :
+        (hs : List ℕ) → hs ≡ halvesOf (view delayed)
+        → InRow rs (x .mode) hs
+        ↔ ((meetsAll (modeAt (automatonOf t) (x .mode) .conditions) (delayedTo (placeAt x) .region) ≡ true)
+        × (within (automatonOf t .ceilings) (delayedTo (placeAt x) .region) ≡ true))
+    delayed-allowed hs are =
+        mode-window t rs (setting .is-table) (setting .is-rules) (x .mode) (k .place .in-modes) (delayedTo p .region)
+        (room-halves (delayedTo p .region) (delayed-half-room t (setting .is-table) p (k .place))) behind hs
+        (λ i h. ap (λ (l : List ℕ). getD l i 0) are ∙ halves-at (view delayed) i h ∙ ap (λ (r : PricedRegion). half r i) delayed-seen)
+
+    pub delayed-is-place : within (automatonOf t .ceilings) (delayedTo (placeAt x) .region) ≡ true → IsPlace (automatonOf t) (delayedTo (placeAt x))
+    delayed-is-place inside = delayed-place a (setting-proper setting) p (k .place) inside

@@ -10,7 +10,7 @@ use lib.Dec.{eqb}
 use lib.ListN.{length, getD, take, List·getD-eq-default}
 use Rattle.semantics.specs.Automata.Proper.{Proper}
 use Rattle.semantics.specs.Automaton.{Automaton, timers}
-use Rattle.semantics.specs.Region.{PricedRegion, top}
+use Rattle.semantics.specs.Region.{PricedRegion, WellFormed, top}
 use Rattle.semantics.specs.NodeCount.{nodeCount}
 use Rattle.semantics.specs.Nodes.Node.{nodeOf, nodeNumber}
 use Rattle.semantics.specs.Chain.{Place}
@@ -19,6 +19,7 @@ use Rattle.semantics.specs.Graph.CornerGraph.{numberOf}
 use Rattle.semantics.specs.Regions.Windows.{half, free}
 use Rattle.semantics.specs.Answers.Places.{IsPlace, corner-top, number-below}
 use Rattle.semantics.specs.Answers.Moving.{number-row}
+use Rattle.semantics.specs.Answers.Waiting.{delayedTo}
 use Rattle.table.specs.Held.{pad, automatonOf, IsTable}
 use Rattle.table.specs.Theorems.Access.{table-proper, getD-all, getD-pad}
 use Rattle.regions.specs.declared.Region.{Region}
@@ -26,10 +27,23 @@ use Rattle.regions.specs.declared.nodes.NodeRegion.{NodeRegion}
 use Rattle.regions.specs.Held.{view, Valid, WholeRoom, HalfRoom}
 use Rattle.regions.specs.Nodes.{mostModes, CeilingsFew, Padded}
 use Rattle.regions.specs.Laws.Fields.{holds, top-is, top-few}
+use Rattle.regions.specs.Laws.Room.{delay-whole}
 use Rattle.space.specs.declared.Space.{Space}
 use Rattle.space.specs.Space.{graphOf, IsSpace, Setting, placeAt, IsCorner}
 use Rattle.space.specs.Laws.Shares.{few-modes}
 use Rattle.space.specs.Laws.NodeRegion.{space-few, space-padded, space-ceilings}
+
+-- Where the timers of a region stand in half minutes,
+pub room-halves : (r : PricedRegion) → HalfRoom r → (x : ℕ) → half r x < free
+room-halves r room x = omega (arith, room x, high-few (eqb (getD (r .group) x 0) 0) (getD (r .whole) x 0))
+  where
+    high-few : (b : Bool) (w : ℕ) → cond b w (suc w) ≤ suc w
+    high-few true w = omega arith
+    high-few false w = omega arith
+
+-- and those that it does not have.
+pub halves-behind : (r : PricedRegion) → WellFormed r → (x : ℕ) → length (r .whole) ≤ x → half r x ≡ 0
+halves-behind r w x l = rw (List·getD-eq-default (r .whole) 0 {n = x} l, List·getD-eq-default (r .group) 0 {n = x} (omega (arith, w .paired))) refl
 
 -- The places of a table: whole parts are at most the ceilings, so that they have room.
 module _ (t : List ℕ) (is : IsTable t) (p : Place) (place : IsPlace (automatonOf t) p) where
@@ -54,11 +68,11 @@ module _ (t : List ℕ) (is : IsTable t) (p : Place) (place : IsPlace (automaton
 
   -- Where its timers stand in half minutes.
   pub place-halves : (x : ℕ) → half (p .region) x < free
-  place-halves x = omega (arith, place-whole x, high-few (eqb (getD (p .region .group) x 0) 0) (getD (p .region .whole) x 0))
-    where
-      high-few : (b : Bool) (w : ℕ) → cond b w (suc w) ≤ suc w
-      high-few true w = omega arith
-      high-few false w = omega arith
+  place-halves = room-halves (p .region) place-half-room
+
+  -- After a delay too.
+  pub delayed-half-room : HalfRoom (delayedTo p .region)
+  delayed-half-room i = omega (arith, place-whole i, delay-whole (p .region) 0 i)
 
 -- The list of these, as `halves` gives it.
 abbrev pub halvesOf : PricedRegion → List ℕ

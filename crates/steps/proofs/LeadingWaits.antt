@@ -1,7 +1,7 @@
 -- Delay and linger from the place at which a walk stands: to which corners they lead, and when they lead nowhere.
 -- Assumes nothing.
 use mathlib.Core.Path.{_≡_, refl, sym, ap, subst, _∙_}
-use mathlib.Core.Bool.{Bool, true, false, cond, true≢false}
+use mathlib.Core.Bool.{Bool, true, false, cond}
 use mathlib.Core.Logic.{_↔_, _⊎_, inl, inr}
 use mathlib.Core.List.{List}
 use mathlib.Core.Option.{some}
@@ -54,11 +54,9 @@ module _ {t : List ℕ} {s : Space} {x : NodeRegion} {z : Stand} {ws : List ℕ}
   step-admits : (y : Place) → step (automatonOf t) 64 (placeAt x) ≡ some y → Admits (automatonOf t) (x .mode) next
   step-admits y f = shape-admits _ _ (after-same a p .region) a (x .mode) (after-step a p (step-view a p y 64 f) refl .0)
 
-  pub delay-beyond : within (automatonOf t .ceilings) next ≡ false → Silent t s z ws 64
-  delay-beyond e = silent-here w 64 (λ l d tells y i f led. true≢false (sym (step-admits y f .ceilings) ∙ e))
-
-  pub delay-unmet : (meetsAll (modeAt (automatonOf t) (x .mode) .conditions) next ≡ true → ⊥) → Silent t s z ws 64
-  delay-unmet n = silent-here w 64 (λ l d tells y i f led. n (step-admits y f .conditions))
+  pub delay-unmet :
+      (meetsAll (modeAt (automatonOf t) (x .mode) .conditions) next ≡ true → within (automatonOf t .ceilings) next ≡ true → ⊥) → Silent t s z ws 64
+  delay-unmet n = silent-here w 64 (λ l d tells y i f led. n (step-admits y f .conditions) (step-admits y f .ceilings))
 
   -- It is.
   module _ (conditions : meetsAll (modeAt (automatonOf t) (x .mode) .conditions) next ≡ true) (place : IsPlace (automatonOf t) (delayedTo (placeAt x)))

@@ -276,7 +276,7 @@ fn by_move(
     nowhere()
 }
 
-// Tries the delay.
+// Tries the delay. The mode's row has its conditions and the ceilings.
 fn by_delay(
     words: &[u32],
     space: Space,
@@ -294,9 +294,6 @@ fn by_delay(
     let region = at.region;
     let ceilings = space.ceilings;
     let delayed = region.delay(0);
-    if !delayed.within(ceilings) {
-        return nowhere();
-    }
     if !rules::all_inside(rules, at.mode, delayed.halves()) {
         return nowhere();
     }

@@ -1,14 +1,15 @@
 -- How much room the operations leave: what a caller needs for the bounds that `delay`, `linger` and `charge` require.
 -- Assumes nothing.
 use mathlib.Core.Path.{_≡_, sym, subst}
-use mathlib.Core.Bool.{true}
+use mathlib.Core.Bool.{Bool, true, false, cond}
 use mathlib.Core.Logic.{⊎-elim}
 use mathlib.Core.List.{List, [], _∷_, _++_, map}
 use Prim.Native.Nat.{ℕ, zero, suc, _+_, _-_, _<_, _≤_, _^_}
 use native.Mathlib.Decide.{decLt}
 use native.Mathlib.Omega.{arith}
+use lib.Dec.{eqb}
 use lib.ListN.{length, getD, drop, List·getD-eq-default}
-use Rattle.semantics.specs.Region.{PricedRegion, WellFormed, top, merge, start, leave, arrive, delay, linger, reset, resetAll, charge, within}
+use Rattle.semantics.specs.Region.{PricedRegion, WellFormed, top, risen, merge, start, leave, arrive, delay, linger, reset, resetAll, charge, within}
 use Rattle.semantics.specs.Regions.Lists.{map-below, set-below, replicate-zero}
 use Rattle.semantics.specs.Regions.Cases.{zero-cases, delay-arrive, delay-leave, lingered, linger-empty, linger-same, resetAlone, reset-alone, reset-joined, alone-cases}
 use Rattle.semantics.specs.Nodes.Regions.{within-whole}
@@ -106,6 +107,22 @@ module _ (r : PricedRegion) where
       let cleared = set-below 255 0 (omega arith) (r .whole) x h in
       ⊎-elim (λ a. subst WholeRoom (sym (reset-alone x r a)) cleared) (λ a. subst WholeRoom (sym (reset-joined x r a)) cleared)
       (alone-cases x r)
+
+-- A delay takes no whole part further than one minute.
+risen-most : (k : ℕ) (gs ws : List ℕ) (i : ℕ) → getD (risen k gs ws) i 0 ≤ suc (getD ws i 0)
+risen-most k [] ws i = omega arith
+risen-most k (g ∷ gs) [] i = omega arith
+risen-most k (g ∷ gs) (w ∷ ws) zero = most (eqb g k)
+  where
+    most : (b : Bool) → cond b (suc w) w ≤ suc w
+    most true = omega arith
+    most false = omega arith
+risen-most k (g ∷ gs) (w ∷ ws) (suc i) = risen-most k gs ws i
+
+pub delay-whole : (r : PricedRegion) (rate i : ℕ) → getD (delay rate r .whole) i 0 ≤ suc (getD (r .whole) i 0)
+unfolding arrive leave
+delay-whole r rate i =
+    ⊎-elim (λ z. rw (delay-arrive rate r z) (risen-most (top r) (r .group) (r .whole) i)) (λ p. rw (delay-leave rate r p) (omega arith)) (zero-cases r)
 
 pub start-whole-room : (n : ℕ) → WholeRoom (start n)
 unfolding start

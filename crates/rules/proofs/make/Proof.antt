@@ -52,38 +52,53 @@ join-requires c κs =
     let start = c .before .before .before .before .before .before .before .before in
     (start .pre, c .before .fill2 .ensures .size ∙ c .before .before .before .fill .ensures .size)
 
-no-moves-requires : tie.Need-no-moves-requires
-no-moves-requires c κs =
+cap-requires : tie.Need-cap-requires
+cap-requires c κs =
     let filled = c .before .before .before in
     let counted = filled .before .before .before .before .before in
     let modes = counted .before .modes .ensures in
     let start = counted .before .before in (
+      start .pre,
       c .before .join .ensures .size ∙ filled .fill2 .ensures .size ∙ filled .before .before .fill .ensures .size,
       omega (arith, modes-few (now (start .args .table)) (start .pre)),
     )
 
-order-requires : tie.Need-order-requires
-order-requires c κs =
+no-moves-requires : tie.Need-no-moves-requires
+no-moves-requires c κs =
     let joined = c .before .before .before in
     let filled = joined .before .before in
     let counted = filled .before .before .before .before .before in
     let modes = counted .before .modes .ensures in
     let start = counted .before .before in (
+      c .before .cap .ensures .size ∙ joined .join .ensures .size ∙ filled .fill2 .ensures .size ∙ filled .before .before .fill .ensures .size,
+      omega (arith, modes-few (now (start .args .table)) (start .pre)),
+    )
+
+order-requires : tie.Need-order-requires
+order-requires c κs =
+    let ended = c .before .before .before in
+    let joined = ended .before .before in
+    let filled = joined .before .before in
+    let counted = filled .before .before .before .before .before in
+    let modes = counted .before .modes .ensures in
+    let start = counted .before .before in (
       start .pre,
-      c .before .no-moves .ensures .size ∙ joined .join .ensures .size ∙ filled .fill2 .ensures .size ∙ filled .before .before .fill .ensures .size,
+      c .before .no-moves .ensures .size ∙ ended .cap .ensures .size ∙ joined .join .ensures .size ∙ filled .fill2 .ensures .size
+          ∙ filled .before .before .fill .ensures .size,
       λ m l. c .before .no-moves .ensures .there m (omega arith),
     )
 
 returns : tie.Need-returns
 returns c =
     let emptied = c .before .before in
-    let joined = emptied .before .before in
+    let ended = emptied .before .before in
+    let joined = ended .before .before in
     let filled = joined .before .before in
     let counted = filled .before .before .before .before .before in
     let start = counted .before .before in
-    is-rules (now (start .args .table)) (start .pre) (replicate 560 0) _ _ _ _ _ (replicate-zero 560) refl _ _ (counted .before .modes .ensures)
-    (counted .moves .ensures) (filled .before .before .fill .ensures) (filled .fill2 .ensures) (joined .join .ensures) (emptied .no-moves .ensures)
-    (c .order .ensures)
+    is-rules (now (start .args .table)) (start .pre) (replicate 560 0) _ _ _ _ _ _ (replicate-zero 560) refl _ _ (counted .before .modes .ensures)
+    (counted .moves .ensures) (filled .before .before .fill .ensures) (filled .fill2 .ensures) (joined .join .ensures) (ended .cap .ensures)
+    (emptied .no-moves .ensures) (c .order .ensures)
 
 pub make-spec : {M : Type 1} → statement M
 make-spec =
@@ -96,6 +111,7 @@ make-spec =
     add-fill-2
     fill-requires-2
     join-requires
+    cap-requires
     no-moves-requires
     order-requires
     returns)

@@ -1,18 +1,19 @@
--- A region meets the conditions of a mode just if its timers are in the windows of its row; and those of a move, and after it its target's, just if
--- they are in the windows of the move's row.
+-- A region meets the conditions of a mode and the ceilings just if its timers are in the windows of the mode's row; and the conditions of a move, and
+-- after it its target's, just if they are in the windows of the move's row.
 -- Assumes nothing.
 use mathlib.Core.Path.{_≡_, refl, sym, _∙_}
 use mathlib.Core.Bool.{Bool, true, false, cond, _&&_, true≢false}
 use mathlib.Core.Logic.{_↔_, _≢_}
 use mathlib.Core.List.{List, [], _∷_, List·Memᴰ}
-use Prim.Native.Nat.{ℕ, _+_, _≤_, _<_, max, min}
+use Prim.Native.Nat.{ℕ, zero, suc, _+_, _≤_, _<_, max, min}
 use native.Mathlib.Decide.{ℕ-discrete, decLt}
+use native.Mathlib.Nat.{add-zero, zero-add}
 use native.Mathlib.Omega.{arith}
 use borrow.Author.Tests.{eq-eqb, ne-eqb, ltb-true, lt-ltb, leb-true, le-leb}
 use lib.Dec.{leb, ltb}
 use lib.ListN.{length, getD}
-use Rattle.semantics.specs.Condition.{Condition}
-use Rattle.semantics.specs.Region.{PricedRegion, meets, meetsAll}
+use Rattle.semantics.specs.Condition.{Condition, atMost}
+use Rattle.semantics.specs.Region.{PricedRegion, meets, meetsAll, withinFrom, within}
 use Rattle.semantics.specs.Automaton.{timers, modeAt, moveAt}
 use Rattle.semantics.specs.Run.{among}
 use Rattle.semantics.specs.Automata.Proper.{OnTimers}
@@ -21,7 +22,7 @@ use Rattle.semantics.specs.Regions.Compare.{and-true-iff}
 use Rattle.semantics.specs.Regions.Windows.{half, free, lowest, above, meets-window, InWindows, AreWindows, windows-none}
 use Rattle.table.specs.Held.{automatonOf, IsTable}
 use Rattle.table.specs.Theorems.Access.{table-proper, target-below, timer-count, counts}
-use Rattle.rules.specs.Rules.{lowOf, highOf, joinedLow, joinedHigh, lowAt, highAt, InRow, targetConditions, IsRow, IsRules}
+use Rattle.rules.specs.Rules.{lowOf, highOf, joinedLow, joinedHigh, lowAt, highAt, InRow, targetConditions, IsRules}
 
 -- One condition more narrows the window of its timer, and no other.
 module _ (c : Condition) (cs : List Condition) (x : ℕ) where
@@ -104,17 +105,36 @@ three-windows cs on r f = (λ i. windows-of cs r f .1 (λ x. all i x (decLt x 3)
         let none = unspoken 3 cs on x (omega arith) in
         (omega (arith, none .0), omega (arith, none .1, f x))
 
--- The windows of a row of conditions.
-row-window :
-    (rs : List ℕ) (row : ℕ) (cs : List Condition) → IsRow rs row cs → OnTimers 3 cs → (r : PricedRegion)
-    → ((x : ℕ) → half r x < free) → (hs : List ℕ) → ((x : ℕ) → x < 3 → getD hs x 0 ≡ half r x) → InRow rs row hs ↔ (meetsAll cs r ≡ true)
-row-window rs row cs is on r f hs stand = (λ i. three-windows cs on r f .0 (into i), λ t x l. out (three-windows cs on r f .1 t x l) l)
-  where
-    into : InRow rs row hs → (x : ℕ) → x < 3 → (lowOf cs x ≤ half r x) × (half r x < highOf cs x)
-    into i x l = (omega (arith, is .low x l, i x l .0, stand x l), omega (arith, is .high x l, i x l .1, stand x l))
+-- A region is within ceilings just if each timer stands below the first place above its own.
+module _ (r : PricedRegion) (f : (x : ℕ) → half r x < free) where
+  -- The ceilings of the timers from x on.
+  from-below : (x : ℕ) (cs : List ℕ) → (withinFrom x cs r ≡ true) ↔ ((i : ℕ) → i < length cs → half r (x + i) < above atMost (getD cs i 0))
+  from-below x [] = (λ t i l. absurd (omega arith), λ all. refl)
+  from-below x (c ∷ cs) =
+      let own : Condition = record { timer = x; comparison = atMost; value = c } in
+      let both = and-true-iff (meets own r) (withinFrom (suc x) cs r) in
+      let one = meets-window own r (f x) in
+      let rest = from-below (suc x) cs in (
+        λ t. each (one .0 (both .0 t .0) .1) (rest .0 (both .0 t .1)),
+        λ all.
+            let others : (j : ℕ) → j < length cs → half r (suc x + j) < above atMost (getD cs j 0) = λ j l. rw (next j) (all (suc j) (omega arith)) in
+            both .1 (one .1 (omega arith, rw add-zero at (all 0 (omega arith))), rest .1 others),
+      )
+    where
+      next : (j : ℕ) → suc x + j ≡ x + suc j
+      next j = omega arith
 
-    out : {x : ℕ} → (lowOf cs x ≤ half r x) × (half r x < highOf cs x) → x < 3 → (lowAt rs row x ≤ getD hs x 0) × (getD hs x 0 < highAt rs row x)
-    out {x} i l = (omega (arith, is .low x l, i .0, stand x l), omega (arith, is .high x l, i .1, stand x l))
+      each :
+          half r x < above atMost c → ((j : ℕ) → j < length cs → half r (suc x + j) < above atMost (getD cs j 0)) → (j : ℕ) → j < suc (length cs)
+          → half r (x + j) < above atMost (getD (c ∷ cs) j 0)
+      each own others zero l = rw add-zero own
+      each own others (suc j) l = rw (← next j) (others j (omega arith))
+
+  within-below : (cs : List ℕ) → (within cs r ≡ true) ↔ ((x : ℕ) → x < length cs → half r x < above atMost (getD cs x 0))
+  unfolding within
+  within-below cs =
+      let all = from-below 0 cs in
+      (λ t x l. rw zero-add at (all .0 t x l), λ each. all .1 (λ x l. rw zero-add (each x l)))
 
 -- A place is in a window just if the tests of both ends say so.
 pub in-window : (low h high : ℕ) → ((leb low h && ltb h high) ≡ true) ↔ ((low ≤ h) × (h < high))
@@ -140,12 +160,42 @@ module _ (t rs : List ℕ) (table : IsTable t) (rules : IsRules t rs) where
   on-three : (cs : List Condition) → OnTimers (timers (automatonOf t)) cs → OnTimers 3 cs
   on-three cs on c m = omega (arith, on c m, timer-count t table, counts t table)
 
-  pub mode-window :
-      (m : ℕ) → m < length (automatonOf t .modes) → (r : PricedRegion) → ((x : ℕ) → half r x < free) → (hs : List ℕ)
-      → ((x : ℕ) → x < 3 → getD hs x 0 ≡ half r x) → InRow rs m hs ↔ (meetsAll (modeAt (automatonOf t) m .conditions) r ≡ true)
-  mode-window m there r f hs stand =
-      row-window rs m (modeAt (automatonOf t) m .conditions) (rules .invariants m there)
-      (on-three _ (table-proper t table .invariants-on _ (mem-getD (automatonOf t .modes) m _ there))) r f hs stand
+  -- A timer that is not there stands at 0.
+  module _ (m : ℕ) (there : m < length (automatonOf t .modes)) (r : PricedRegion) (f : (x : ℕ) → half r x < free)
+      (spare : (x : ℕ) → timers (automatonOf t) ≤ x → half r x ≡ 0) where
+    abbrev conditions : List Condition
+    conditions = modeAt (automatonOf t) m .conditions
+
+    abbrev ceilings : List ℕ
+    ceilings = automatonOf t .ceilings
+
+    met : ((x : ℕ) → x < 3 → (lowOf conditions x ≤ half r x) × (half r x < highOf conditions x)) ↔ (meetsAll conditions r ≡ true)
+    met = three-windows conditions (on-three _ (table-proper t table .invariants-on _ (mem-getD (automatonOf t .modes) m _ there))) r f
+
+    below-cap : within ceilings r ≡ true → (x : ℕ) → half r x < above atMost (getD ceilings x 0)
+    below-cap inside x = at (decLt x (length ceilings))
+      where
+        at : Dec (x < length ceilings) → half r x < above atMost (getD ceilings x 0)
+        at (yes l) = within-below r f ceilings .0 inside x l
+        at (no n) = omega (arith, spare x (omega arith))
+
+    -- "[..] if the new region meets the mode's conditions and every ceiling".
+    pub mode-window :
+        (hs : List ℕ) → ((x : ℕ) → x < 3 → getD hs x 0 ≡ half r x)
+        → InRow rs m hs ↔ ((meetsAll (modeAt (automatonOf t) m .conditions) r ≡ true) × (within (automatonOf t .ceilings) r ≡ true))
+    mode-window hs stand =
+        let row = rules .invariants m there in (
+          λ i. (
+            met .0 (λ x l. (omega (arith, row .low x l, i x l .0, stand x l), omega (arith, row .high x l, i x l .1, stand x l))),
+            within-below r f ceilings .1
+                (λ x l.
+                let few : x < 3 = omega (arith, timer-count t table, counts t table) in
+                omega (arith, row .high x few, i x few .1, stand x few)),
+          ),
+          λ both x l.
+              let w = met .1 (both .0) x l in
+              (omega (arith, row .low x l, w .0, stand x l), omega (arith, row .high x l, w .1, below-cap (both .1) x, stand x l)),
+        )
 
   -- The region r is where the move is made, and r′ what its resets leave of it.
   module _ (e : ℕ) (there : e < length (automatonOf t .moves)) (r r′ : PricedRegion) (f : (x : ℕ) → half r x < free)

@@ -8,10 +8,10 @@ use borrow.Author.Tests.{not-true, not-false}
 use denote.Ref.{now}
 use Rattle.space.specs.Space.{placeAt}
 use Rattle.space.proofs.Settings.{place-mode}
-use Rattle.space.proofs.Delayed.{delay-ready, delayed-valid, delayed-within, delayed-ready, halves-ready}
+use Rattle.space.proofs.Delayed.{delay-ready, delayed-valid, delayed-ready, halves-ready}
 use Rattle.search.proofs.edges.relax_waits.Statement.{statement}
 use Rattle.search.proofs.edges.relax_waits.Tie as tie
-use Rattle.search.proofs.Waits.{Looked, Stands, waits-ready, waits-outside, waits-unmet, delays-ready, waits-done}
+use Rattle.search.proofs.Waits.{Looked, waits-ready, waits-unmet, delays-ready, waits-done}
 
 abbrev start-of : tie.After-relax-linger-arg → tie.Start
 start-of c = c .before .before .before .before .before .before .before .before .before
@@ -30,10 +30,7 @@ looked c = record {
 
 -- and after it.
 abbrev arg-of : tie.After-halves → tie.After-relax-linger-arg
-arg-of c = c .before .before .before .before .before .before
-
-stands : (c : tie.After-halves) → Stands (start-of (arg-of c) .args .space) (arg-of c .before .before .before .delay .result) (c .halves .result)
-stands c = record { inside = sym (c .before .before .within .ensures) ∙ not-false _ (c .before .if1 .left); halves-are = c .halves .ensures }
+arg-of c = c .before .before .before .before
 
 rate-requires : tie.Need-rate-requires
 rate-requires c κs = search needs
@@ -57,26 +54,10 @@ top-requires-2 c κs = search needs
 relax-linger-requires : tie.Need-relax-linger-requires
 relax-linger-requires c κs = waits-ready (start-of c .pre .0) (start-of c .pre .1) (looked c)
 
-within-requires : tie.Need-within-requires
-within-requires c κs =
-    let arg = c .before .before .before in
-    delayed-valid (start-of arg .pre .0 .setting) (start-of arg .pre .0 .corner) _ (looked arg .is)
-
-same-length : tie.Need-same-length
-same-length c = search needs
-
-returns : tie.Need-returns
-returns c =
-    let arg = c .before .before .before .before .before in
-    waits-outside (start-of arg .pre .0) (start-of arg .pre .1) (looked arg) (c .before .before .before .before .relax-linger .ensures)
-    (sym (c .before .within .ensures) ∙ not-true _ (c .if1 .taken))
-
 halves-requires : tie.Need-halves-requires
 halves-requires c κs =
-    let arg = c .before .before .before .before .before in
-    let s = start-of arg in
-    halves-ready (s .pre .0 .setting) (s .pre .0 .corner) _ (looked arg .is)
-    (sym (delayed-within (s .pre .0 .setting) (s .pre .0 .corner) _ (looked arg .is)) ∙ sym (c .before .within .ensures) ∙ not-false _ (c .if1 .left))
+    let arg = c .before .before .before in
+    halves-ready (start-of arg .pre .0 .setting) (start-of arg .pre .0 .corner) _ (looked arg .is)
 
 all-inside-requires : tie.Need-all-inside-requires
 all-inside-requires c κs =
@@ -84,14 +65,14 @@ all-inside-requires c κs =
     let few = place-mode (now (s .args .table)) (s .pre .0 .setting .is-table) (placeAt (s .args .from .at)) (s .pre .0 .corner .place) in
     (s .pre .0 .setting .is-rules .size, omega (arith, few))
 
-same-length-2 : tie.Need-same-length-2
-same-length-2 c = search needs
+same-length : tie.Need-same-length
+same-length c = search needs
 
-returns-2 : tie.Need-returns-2
-returns-2 c =
+returns : tie.Need-returns
+returns c =
     let h = c .before .before in
-    waits-unmet (start-of (arg-of h) .pre .0) (start-of (arg-of h) .pre .1) (looked (arg-of h)) (h .before .before .before .before .before .relax-linger .ensures) (stands h)
-    (λ met. true≢false (sym (c .before .all-inside .ensures .1 met) ∙ not-true _ (c .if2 .taken)))
+    waits-unmet (start-of (arg-of h) .pre .0) (start-of (arg-of h) .pre .1) (looked (arg-of h)) (h .before .before .before .relax-linger .ensures)
+    (h .halves .ensures) (λ met. true≢false (sym (c .before .all-inside .ensures .1 met) ∙ not-true _ (c .if1 .taken)))
 
 node-of-requires : tie.Need-node-of-requires
 node-of-requires c κs =
@@ -102,23 +83,23 @@ relax-delay-requires : tie.Need-relax-delay-requires
 relax-delay-requires c κs =
     let all = c .before .before .before in
     let h = all .before in
-    delays-ready (start-of (arg-of h) .pre .0) (start-of (arg-of h) .pre .1) (looked (arg-of h)) (h .before .before .before .before .before .relax-linger .ensures) (stands h)
-    (all .all-inside .ensures .0 (not-false _ (c .before .before .if2 .left))) (c .before .node-of .result) (c .before .node-of .ensures)
+    delays-ready (start-of (arg-of h) .pre .0) (start-of (arg-of h) .pre .1) (looked (arg-of h)) (h .before .before .before .relax-linger .ensures)
+    (h .halves .ensures) (all .all-inside .ensures .0 (not-false _ (c .before .before .if1 .left))) (c .before .node-of .result) (c .before .node-of .ensures)
 
-same-length-3 : tie.Need-same-length-3
-same-length-3 c = search needs
+same-length-2 : tie.Need-same-length-2
+same-length-2 c = search needs
 
-returns-3 : tie.Need-returns-3
-returns-3 c =
+returns-2 : tie.Need-returns-2
+returns-2 c =
     let node = c .before .before .before .before in
     let all = node .before .before in
     let h = all .before in
-    waits-done (start-of (arg-of h) .pre .0) (start-of (arg-of h) .pre .1) (looked (arg-of h)) (h .before .before .before .before .before .relax-linger .ensures) (stands h)
-    (all .all-inside .ensures .0 (not-false _ (node .before .if2 .left))) (node .node-of .result) (node .node-of .ensures)
+    waits-done (start-of (arg-of h) .pre .0) (start-of (arg-of h) .pre .1) (looked (arg-of h)) (h .before .before .before .relax-linger .ensures)
+    (h .halves .ensures) (all .all-inside .ensures .0 (not-false _ (node .before .if1 .left))) (node .node-of .result) (node .node-of .ensures)
     (c .before .before .relax-delay .ensures)
 
 pub relax-waits-spec : {M : Type 1} → statement M
 relax-waits-spec =
     tie.close
-    (tie.spec rate-requires cast-rate delay-requires top-requires top-requires-2 relax-linger-requires within-requires same-length returns halves-requires
-    all-inside-requires same-length-2 returns-2 node-of-requires relax-delay-requires same-length-3 returns-3)
+    (tie.spec rate-requires cast-rate delay-requires top-requires top-requires-2 relax-linger-requires halves-requires all-inside-requires same-length
+    returns node-of-requires relax-delay-requires same-length-2 returns-2)

@@ -1,0 +1,90 @@
+-- `rules::rows::cap_row` meets its contract. The loop's invariant: the windows of the timers before the present one end above their ceilings.
+-- Assumes nothing.
+use Prim.Native.Nat.{_-_, _≤_}
+use mathlib.Core.Path.{_≡_}
+use borrow.Author.Needs.{needs}
+use native.Mathlib.Omega.{arith}
+use Rattle.rules.specs.Making.{CappedRow}
+use Rattle.rules.proofs.Capping.{cap-none, cap-more}
+use Rattle.rules.proofs.rows.cap_row.Statement.{statement}
+use Rattle.rules.proofs.rows.cap_row.Tie as tie
+
+abbrev Inv-loop : tie.InvT-loop
+Inv-loop rules₀ row ceilings timer₀ rules timer = (timer ≤ 3) × CappedRow ceilings row timer rules₀ rules
+
+abbrev μ-loop : tie.MeasureT-loop
+μ-loop rules₀ row ceilings timer₀ rules timer = 3 - timer
+
+loop-holds : tie.Need-loop-holds Inv-loop μ-loop
+loop-holds c = (omega arith, cap-none _ _ _)
+
+mul-at : tie.Need-mul-at Inv-loop μ-loop
+mul-at c = omega arith
+
+mul-at-2 : tie.Need-mul-at-2 Inv-loop μ-loop
+mul-at-2 c = omega arith
+
+add-at : tie.Need-add-at Inv-loop μ-loop
+add-at c = omega arith
+
+add-at-2 : tie.Need-add-at-2 Inv-loop μ-loop
+add-at-2 c = omega arith
+
+element-copy-out-smaller : tie.Need-element-copy-out-smaller Inv-loop μ-loop
+element-copy-out-smaller c = omega arith
+
+array-read-smaller : tie.Need-array-read-smaller Inv-loop μ-loop
+array-read-smaller c = omega arith
+
+mul-smaller : tie.Need-mul-smaller Inv-loop μ-loop
+mul-smaller c = let turn = c .before .before in omega (arith, turn .before .pre .2 (turn .loop .timer))
+
+add-smaller : tie.Need-add-smaller Inv-loop μ-loop
+add-smaller c = let turn = c .before .before in omega (arith, turn .before .pre .2 (turn .loop .timer))
+
+smaller-requires : tie.Need-smaller-requires Inv-loop μ-loop
+smaller-requires c κs = search needs
+
+element-write-rules : tie.Need-element-write-rules Inv-loop μ-loop
+element-write-rules c = omega arith
+
+add-timer : tie.Need-add-timer Inv-loop μ-loop
+add-timer c = omega arith
+
+loop-less : tie.Need-loop-less Inv-loop μ-loop
+loop-less c = omega arith
+
+loop-again : tie.Need-loop-again Inv-loop μ-loop
+loop-again c =
+    let turn = c .before .before .before in
+    let a = turn .before .args in (
+      omega arith,
+      cap-more (a .t3) (a .row) _ (omega arith) (turn .loop .timer) (omega arith) (turn .loop .rules) (turn .loop .inv .1) _ (c .smaller .ensures),
+    )
+
+returns : tie.Need-returns Inv-loop μ-loop
+returns c =
+    let all : c .before .loop .timer ≡ 3 = omega arith in
+    rw all at (c .before .loop .inv .1)
+
+pub cap-row-spec : {M : Type 1} → statement M
+cap-row-spec =
+    tie.close
+    (tie.spec
+    Inv-loop
+    μ-loop
+    loop-holds
+    mul-at
+    mul-at-2
+    add-at
+    add-at-2
+    element-copy-out-smaller
+    array-read-smaller
+    mul-smaller
+    add-smaller
+    smaller-requires
+    element-write-rules
+    add-timer
+    loop-less
+    loop-again
+    returns)

@@ -1,5 +1,4 @@
-// What the methods of a region do to its arrays, and how the values of a timer compare. Loops over the timers that are there go over three, and
-// leave off at the last: three turns unroll.
+// What the methods of a region do to its arrays. Loops over the timers that are there go over three, and leave off at the last: three turns unroll.
 ghost use mathlib.Core.Path.{_≡_};
 ghost use mathlib.Core.Bool.{cond};
 ghost use mathlib.Core.List.{_++_, _∷_, [], map};
@@ -11,8 +10,6 @@ ghost use Rattle.semantics.specs.Regions.Renumber.{wrapped, lowered};
 ghost use Rattle.table.specs.Fields.{mostTimers};
 ghost use Rattle.arrays.specs.Arrays.{mostCorners, mapTo};
 use table::MOST_TIMERS;
-
-pub mod compare;
 
 // A region of three timers has up to four corners, each with its price.
 pub const MOST_CORNERS: usize = MOST_TIMERS + 1;

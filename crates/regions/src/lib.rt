@@ -10,7 +10,7 @@ ghost use Rattle.semantics.specs.NodeCount.{cornerCount};
 ghost use Rattle.semantics.specs.Corners.Corner.{cornerOf, cornerNumber};
 ghost use Rattle.table.specs.Meaning.{namedTimers, conditionOf};
 ghost use Rattle.regions.specs.Held.{mostTimers, mostCorners, pad, pack, view, Valid, PriceRoom, WholeRoom, HalfRoom};
-use arrays::compare;
+use conditions::compare;
 use corners::tables;
 
 pub mod nodes;

@@ -8,7 +8,8 @@ use native.Mathlib.Decide.{ℕ-discrete}
 use native.Mathlib.Omega.{arith}
 use lib.ListN.{length, getD, set, length-set}
 use lib.Seq.{getD-set-same, getD-set-other}
-use Rattle.rules.specs.Rules.{capped, lowAt, highAt}
+use Rattle.conditions.specs.Windows.{capped}
+use Rattle.rules.specs.Rules.{lowAt, highAt}
 use Rattle.rules.specs.Making.{Caps, CappedRow, CappedRows}
 
 -- One timer after another.

@@ -8,8 +8,8 @@ use native.Mathlib.Omega.{arith}
 use lib.ListN.{getD, take, drop}
 use Rattle.semantics.specs.Condition.{Condition}
 use Rattle.table.specs.Meaning.{conditionsFrom}
-use Rattle.rules.specs.Rules.{lowOf, highOf}
-use Rattle.rules.specs.Making.{rowOf, Wrote, conditionBytes, IsRow, FilledRows}
+use Rattle.conditions.specs.Windows.{lowOf, highOf, rowOf}
+use Rattle.rules.specs.Making.{Wrote, conditionBytes, IsRow, FilledRows}
 
 -- What a row has, byte by byte.
 low-byte : (cs : List Condition) (x : ℕ) → x < 3 → getD (rowOf cs) (2 * x) 0 ≡ lowOf cs x

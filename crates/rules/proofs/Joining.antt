@@ -16,30 +16,9 @@ use Rattle.semantics.specs.Run.{among}
 use Rattle.table.specs.Meaning.{stands, namedTimers}
 use Rattle.table.specs.Held.{automatonOf, fieldsOf, moveFieldsAt}
 use Rattle.table.specs.Theorems.Access.{move-of-fields}
-use Rattle.rules.specs.Rules.{joinedLow, joinedHigh, lowAt, highAt}
+use Rattle.conditions.specs.Windows.{joinedLow, joinedHigh}
+use Rattle.rules.specs.Rules.{lowAt, highAt}
 use Rattle.rules.specs.Making.{Joins, JoinedRow, JoinedRows}
-
--- Both ends of a window, by the tests of the code.
-module _ (reset : Bool) (own low : ℕ) where
-  pub low-both : reset ≡ false → max own low ≡ joinedLow reset own low
-  low-both e = rw e
-
-  module _ (high : ℕ) where
-    pub high-both : reset ≡ false → min own high ≡ joinedHigh reset own low high
-    high-both e = rw e
-
-    pub high-above : reset ≡ true → 0 < low → 0 ≡ joinedHigh reset own low high
-    high-above e l = rw (e, lt-leb low 0 l)
-
-    pub high-empty : reset ≡ true → high ≡ 0 → 0 ≡ joinedHigh reset own low high
-    high-empty e none = rw (e, le-ltb 0 high (omega arith)) (at (leb low 0))
-      where
-        at : (b : Bool) → 0 ≡ cond (b && false) own 0
-        at true = refl
-        at false = refl
-
-    pub high-kept : reset ≡ true → low ≤ 0 → high ≢ 0 → own ≡ joinedHigh reset own low high
-    high-kept e l some = rw (e, le-leb low 0 l, lt-ltb 0 high (omega arith))
 
 -- One timer after another.
 module _ (resets row target : ℕ) (rs : List ℕ) where

@@ -1,7 +1,5 @@
 -- The laws that the functions' proofs cite.
 pub mod TimerTests
-pub mod Codes
-pub mod Narrowing
 pub mod Writing
 pub mod Filling
 pub mod Joining

@@ -10,7 +10,8 @@ use Rattle.semantics.specs.Automaton.{Mode, Move, modeAt, moveAt}
 use Rattle.table.specs.Meaning.{conditionsFrom}
 use Rattle.table.specs.Held.{automatonOf, IsTable}
 use Rattle.table.specs.Theorems.Access.{mode-count, move-count, mode-at, move-at, target-below}
-use Rattle.rules.specs.Rules.{capped, none, targetConditions, IsModeRow, IsMoveRow, IsRules}
+use Rattle.conditions.specs.Windows.{capped}
+use Rattle.rules.specs.Rules.{none, targetConditions, IsModeRow, IsMoveRow, IsRules}
 use Rattle.rules.specs.Making.{Wrote, conditionBytes, IsRow, FilledRows, JoinedRows, CappedRows, OrderedFrom}
 use Rattle.rules.proofs.Filling.{row-kept}
 use Rattle.rules.proofs.Ordering.{modes-few, moves-few}

@@ -2,25 +2,15 @@
 -- Assumes nothing.
 use mathlib.Core.Path.{_≡_}
 use mathlib.Core.Bool.{Bool}
-use mathlib.Core.List.{List, [], _∷_}
-use Prim.Native.Nat.{ℕ, _+_, _*_, _≤_, _<_, max, min}
-use lib.ListN.{length, getD, set, take, drop}
+use mathlib.Core.List.{List}
+use Prim.Native.Nat.{ℕ, _+_, _*_, _≤_, _<_}
+use lib.ListN.{length, getD, take, drop}
 use Rattle.semantics.specs.Condition.{Condition}
 use Rattle.semantics.specs.Automaton.{Automaton, moveAt}
 use Rattle.semantics.specs.Run.{among}
-use Rattle.semantics.specs.Regions.Windows.{lowest, above}
 use Rattle.table.specs.Meaning.{stands, conditionsFrom}
-use Rattle.rules.specs.Rules.{lowOf, highOf, joinedLow, joinedHigh, capped, lowAt, highAt, firstOf, afterOf, FirstFrom}
-
--- The six bytes of a row.
-abbrev pub rowOf : List Condition → List ℕ
-rowOf cs = lowOf cs 0 ∷ highOf cs 0 ∷ lowOf cs 1 ∷ highOf cs 1 ∷ lowOf cs 2 ∷ highOf cs 2 ∷ []
-
--- The row with one condition more.
-abbrev pub narrow : List ℕ → Condition → List ℕ
-narrow row c =
-    set (set row (2 * c .timer) (max (getD row (2 * c .timer) 0) (lowest (c .comparison) (c .value)))) (2 * c .timer + 1)
-    (min (getD row (2 * c .timer + 1) 0) (above (c .comparison) (c .value)))
+use Rattle.conditions.specs.Windows.{lowOf, highOf, joinedLow, joinedHigh, capped}
+use Rattle.rules.specs.Rules.{lowAt, highAt, firstOf, afterOf, FirstFrom}
 
 -- So many bytes from `at` on are those of f, and all else is as in rs.
 pub record Wrote (f : ℕ → ℕ) (at count : ℕ) (rs rs′ : List ℕ) : Type 0 where

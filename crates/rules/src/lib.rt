@@ -8,17 +8,15 @@ ghost use lib.Dec.{leb, ltb};
 ghost use lib.ListN.{length};
 ghost use Rattle.table.specs.Held.{IsTable};
 ghost use Rattle.rules.specs.Rules.{lowAt, highAt, InRow, firstOf, afterOf, IsRules};
+use conditions::windows::ROW;
 use table::TABLE;
 
 mod order;
 mod rows;
-mod windows;
 
-// A row of six bytes for each of 16 modes and then for each of 64 moves: for each of three timers the lowest place at which its conditions hold,
-// and the first above it at which they do not. In a move's row those of its target are joined to its own, and in a mode's the ceilings.
-const ROW: usize = 6;
-
-// The row of move 0.
+// A row of windows for each of 16 modes and then for each of 64 moves. In a move's row those of its target are joined to its own, and in a mode's the
+// ceilings.
+// The row of move 0 is this one.
 pub const GUARDS: usize = 16;
 
 // Behind the rows the first move of each mode; and behind those, for each move, the next one from the same mode.

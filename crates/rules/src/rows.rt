@@ -5,12 +5,12 @@ ghost use lib.ListN.{length, getD, take, drop};
 ghost use Rattle.table.specs.Held.{automatonOf, IsTable};
 ghost use Rattle.rules.specs.Making.{conditionBytes, FilledRows, JoinedRow, JoinedRows, CappedRow, CappedRows, Wrote};
 use crate::GUARDS;
-use crate::ROW;
 use crate::RULES;
-use crate::windows::joined_high;
-use crate::windows::joined_low;
-use crate::windows::smaller;
-use crate::windows::windows;
+use conditions::windows::ROW;
+use conditions::windows::capped;
+use conditions::windows::joined_high;
+use conditions::windows::joined_low;
+use conditions::windows::windows;
 use table::MOST_TIMERS;
 use table::TABLE;
 
@@ -81,14 +81,14 @@ pub fn cap(table: &[u8; TABLE], rules: &mut [u8; RULES], modes: usize)
     }
 }
 
-// Ends a row's windows above the ceilings, timer by timer. A ceiling is at an even place, and the first place above it is the next.
+// Ends a row's windows above the ceilings, timer by timer.
 fn cap_row(rules: &mut [u8; RULES], row: usize, ceilings: [u8; MOST_TIMERS])
     requires { ⌜ (length (now rules) ≡ 560) × (row < 80) × ((i : ℕ) → getD ceilings i 0 ≤ 15) ⌝ }
     ensures { λ _. ⌜ CappedRow ceilings row 3 (now (rules .entry)) (now (rules .exit)) ⌝ }
 {
     for timer in 0..MOST_TIMERS {
         let at = ROW * row + 2 * timer + 1;
-        rules[at] = smaller(rules[at], 2 * ceilings[timer] + 1);
+        rules[at] = capped(rules[at], ceilings[timer]);
     }
 }
 

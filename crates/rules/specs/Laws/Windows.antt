@@ -22,22 +22,12 @@ use Rattle.semantics.specs.Regions.Compare.{and-true-iff}
 use Rattle.semantics.specs.Regions.Windows.{half, free, lowest, above, meets-window, InWindows, AreWindows, windows-none}
 use Rattle.table.specs.Held.{automatonOf, IsTable}
 use Rattle.table.specs.Theorems.Access.{table-proper, target-below, timer-count, counts}
-use Rattle.rules.specs.Rules.{lowOf, highOf, joinedLow, joinedHigh, lowAt, highAt, InRow, targetConditions, IsRules}
+use Rattle.conditions.specs.Windows.{lowOf, highOf, joinedLow, joinedHigh}
+use Rattle.conditions.specs.Narrow.{low-own, high-own, low-other, high-other}
+use Rattle.rules.specs.Rules.{lowAt, highAt, InRow, targetConditions, IsRules}
 
--- One condition more narrows the window of its timer, and no other.
+-- A place in the window of one condition more, and of those before it.
 module _ (c : Condition) (cs : List Condition) (x : ℕ) where
-  pub low-own : c .timer ≡ x → lowOf (c ∷ cs) x ≡ max (lowest (c .comparison) (c .value)) (lowOf cs x)
-  low-own e = rw (eq-eqb (c .timer) x e)
-
-  pub high-own : c .timer ≡ x → highOf (c ∷ cs) x ≡ min (above (c .comparison) (c .value)) (highOf cs x)
-  high-own e = rw (eq-eqb (c .timer) x e)
-
-  pub low-other : c .timer ≢ x → lowOf (c ∷ cs) x ≡ lowOf cs x
-  low-other n = rw (ne-eqb (c .timer) x n)
-
-  pub high-other : c .timer ≢ x → highOf (c ∷ cs) x ≡ highOf cs x
-  high-other n = rw (ne-eqb (c .timer) x n)
-
   -- A place is in the narrower window if it is in the wider one and in that of the condition.
   narrower :
       (h : ℕ) → (lowOf cs x ≤ h) × (h < highOf cs x)
@@ -46,15 +36,15 @@ module _ (c : Condition) (cs : List Condition) (x : ℕ) where
   narrower h wide own = at (ℕ-discrete (c .timer) x)
     where
       at : Dec (c .timer ≡ x) → (lowOf (c ∷ cs) x ≤ h) × (h < highOf (c ∷ cs) x)
-      at (yes e) = (omega (arith, low-own e, own e .0, wide .0), omega (arith, high-own e, own e .1, wide .1))
-      at (no n) = (omega (arith, low-other n, wide .0), omega (arith, high-other n, wide .1))
+      at (yes e) = (omega (arith, low-own c cs x e, own e .0, wide .0), omega (arith, high-own c cs x e, own e .1, wide .1))
+      at (no n) = (omega (arith, low-other c cs x n, wide .0), omega (arith, high-other c cs x n, wide .1))
 
   wider : (h : ℕ) → (lowOf (c ∷ cs) x ≤ h) × (h < highOf (c ∷ cs) x) → (lowOf cs x ≤ h) × (h < highOf cs x)
   wider h narrow = at (ℕ-discrete (c .timer) x)
     where
       at : Dec (c .timer ≡ x) → (lowOf cs x ≤ h) × (h < highOf cs x)
-      at (yes e) = (omega (arith, low-own e, narrow .0), omega (arith, high-own e, narrow .1))
-      at (no n) = (omega (arith, low-other n, narrow .0), omega (arith, high-other n, narrow .1))
+      at (yes e) = (omega (arith, low-own c cs x e, narrow .0), omega (arith, high-own c cs x e, narrow .1))
+      at (no n) = (omega (arith, low-other c cs x n, narrow .0), omega (arith, high-other c cs x n, narrow .1))
 
 own-window :
     (c : Condition) (cs : List Condition) (h : ℕ) → (lowOf (c ∷ cs) (c .timer) ≤ h) × (h < highOf (c ∷ cs) (c .timer))

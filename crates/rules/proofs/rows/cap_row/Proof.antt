@@ -2,7 +2,6 @@
 -- Assumes nothing.
 use Prim.Native.Nat.{_-_, _≤_}
 use mathlib.Core.Path.{_≡_}
-use borrow.Author.Needs.{needs}
 use native.Mathlib.Omega.{arith}
 use Rattle.rules.specs.Making.{CappedRow}
 use Rattle.rules.proofs.Capping.{cap-none, cap-more}
@@ -30,20 +29,14 @@ add-at c = omega arith
 add-at-2 : tie.Need-add-at-2 Inv-loop μ-loop
 add-at-2 c = omega arith
 
-element-copy-out-smaller : tie.Need-element-copy-out-smaller Inv-loop μ-loop
-element-copy-out-smaller c = omega arith
+element-copy-out-capped : tie.Need-element-copy-out-capped Inv-loop μ-loop
+element-copy-out-capped c = omega arith
 
-array-read-smaller : tie.Need-array-read-smaller Inv-loop μ-loop
-array-read-smaller c = omega arith
+array-read-capped : tie.Need-array-read-capped Inv-loop μ-loop
+array-read-capped c = omega arith
 
-mul-smaller : tie.Need-mul-smaller Inv-loop μ-loop
-mul-smaller c = let turn = c .before .before in omega (arith, turn .before .pre .2 (turn .loop .timer))
-
-add-smaller : tie.Need-add-smaller Inv-loop μ-loop
-add-smaller c = let turn = c .before .before in omega (arith, turn .before .pre .2 (turn .loop .timer))
-
-smaller-requires : tie.Need-smaller-requires Inv-loop μ-loop
-smaller-requires c κs = search needs
+capped-requires : tie.Need-capped-requires Inv-loop μ-loop
+capped-requires c κs = let turn = c .before .before in turn .before .pre .2 (turn .loop .timer)
 
 element-write-rules : tie.Need-element-write-rules Inv-loop μ-loop
 element-write-rules c = omega arith
@@ -59,7 +52,7 @@ loop-again c =
     let turn = c .before .before .before in
     let a = turn .before .args in (
       omega arith,
-      cap-more (a .t3) (a .row) _ (omega arith) (turn .loop .timer) (omega arith) (turn .loop .rules) (turn .loop .inv .1) _ (c .smaller .ensures),
+      cap-more (a .t3) (a .row) _ (omega arith) (turn .loop .timer) (omega arith) (turn .loop .rules) (turn .loop .inv .1) _ (c .capped .ensures),
     )
 
 returns : tie.Need-returns Inv-loop μ-loop
@@ -78,11 +71,9 @@ cap-row-spec =
     mul-at-2
     add-at
     add-at-2
-    element-copy-out-smaller
-    array-read-smaller
-    mul-smaller
-    add-smaller
-    smaller-requires
+    element-copy-out-capped
+    array-read-capped
+    capped-requires
     element-write-rules
     add-timer
     loop-less

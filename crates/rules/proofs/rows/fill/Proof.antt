@@ -6,7 +6,8 @@ use borrow.Author.Needs.{needs}
 use native.Mathlib.Omega.{arith}
 use denote.Ref.{now}
 use Rattle.table.specs.Meaning.{conditionsFrom}
-use Rattle.rules.specs.Making.{rowOf, conditionBytes, FilledRows}
+use Rattle.conditions.specs.Windows.{rowOf}
+use Rattle.rules.specs.Making.{conditionBytes, FilledRows}
 use Rattle.rules.proofs.Filling.{filled-none, filled-more}
 use Rattle.rules.proofs.rows.fill.Statement.{statement}
 use Rattle.rules.proofs.rows.fill.Tie as tie

@@ -1,0 +1,4 @@
+-- The laws that the functions' proofs cite.
+pub mod Codes
+pub mod Narrowing
+pub mod Ends

@@ -1,0 +1,3 @@
+-- The windows that the contracts cite, and what a caller concludes of them.
+pub mod Windows
+pub mod Narrow

@@ -1,60 +1,48 @@
 // `chain STEP STEP ..: TABLE`: the places of a chain, and what the words of a search say of each.
-ghost use Prim.Native.Nat.{_-_, _<_, _≤_};
 ghost use Rattle.table.specs.Held.{IsTable};
-ghost use Rattle.region_cases.specs.Kept.{OnChain};
+ghost use Rattle.cases.specs.Kept.{OnChain};
+use crate::places;
+use crate::places::Place;
+use crate::print;
+use crate::scripts;
 use crate::searches;
-use region_cases::places;
-use region_cases::places::Place;
-use region_cases::scripts;
+use crate::tokens::LETTER;
+use crate::tokens::TOKENS;
 use regions::Region;
 use regions::nodes;
-use script::print;
-use script::tokens;
-use script::tokens::TOKENS;
 use search::Searched;
 use table::TABLE;
 
 const WORDS: usize = 6000;
 
-pub fn chain(table: &[u8; TABLE], numbers: &[usize; TOKENS], end: usize)
+pub fn chain(table: &[u8; TABLE], numbers: &[usize; TOKENS])
     requires { ⌜ IsTable (now table) ⌝ }
 {
     let mut words = [0u32; WORDS];
     let answer = searches::searched(table, &mut words);
     match answer {
         Searched::Refused(n) => print::refused(n),
-        Searched::Nodes(_) => follow(table, &words, numbers, end),
+        Searched::Nodes(_) => follow(table, &words, numbers),
     }
 }
 
 // The start and the places after the steps, as far as the steps are allowed.
-fn follow(table: &[u8; TABLE], words: &[u32; WORDS], numbers: &[usize; TOKENS], end: usize)
+fn follow(table: &[u8; TABLE], words: &[u32; WORDS], numbers: &[usize; TOKENS])
     requires { ⌜ IsTable (now table) ⌝ }
 {
     let mut place = places::start(table);
-    print::text(b"start");
-    show(table, words, place, 0);
     for i in 1..TOKENS {
-        if (end <= i) | !place.allowed {
+        show(table, words, place, i as u32 - 1);
+        let step = numbers[i];
+        if (step == 0) | !place.allowed {
             return;
         }
-        place = next(table, words, place, tokens::at(numbers, i), i);
+        place = places::step(table, place, step % LETTER);
     }
 }
 
-// The place after one step more, which makes so many.
-fn next(table: &[u8; TABLE], words: &[u32; WORDS], place: Place, step: usize, steps: usize) -> Place
-    requires { ⌜ (steps ≤ 1024) × OnChain (now table) (1025 - steps) (place .mode) (place .region) ⌝ }
-    ensures { λ r. ⌜ OnChain (now (table .entry)) (1024 - steps) (r .mode) (r .region) ⌝ }
-{
-    print::with(b"step A", step);
-    let after = places::step(table, place.mode, place.region, step);
-    show(table, words, after, steps);
-    after
-}
-
 // The place, and whether it stands by the words after so many steps.
-fn show(table: &[u8; TABLE], words: &[u32; WORDS], place: Place, steps: usize)
+fn show(table: &[u8; TABLE], words: &[u32; WORDS], place: Place, steps: u32)
     requires { ⌜ OnChain (now table) 0 (place .mode) (place .region) ⌝ }
 {
     let mode = place.mode;
@@ -72,27 +60,18 @@ fn show(table: &[u8; TABLE], words: &[u32; WORDS], place: Place, steps: usize)
     scripts::parts(region);
 }
 
-// Whether the words say of some corner that it costs its price and so many steps. The first corner is the node.
-fn stands(words: &[u32; WORDS], node: usize, region: Region, steps: usize) -> bool {
+// Whether the words say of some corner that it costs its price and so many steps. The corners are nodes in a row, from the node on.
+fn stands(words: &[u32; WORDS], node: usize, region: Region, steps: u32) -> bool {
+    let prices = region.prices;
     let mut some = false;
-    for corner in 0..Region::MOST_CORNERS {
-        some = some | costs(words, node, region, corner, steps);
+    for corner in 0..region.top as usize % 4 + 1 {
+        some = some | costs(words, node % 3000 + corner, prices[corner], steps);
     }
     some
 }
 
-// Whether they say so of a corner, if the region has it. The corners are nodes in a row.
-fn costs(words: &[u32; WORDS], node: usize, region: Region, corner: usize, steps: usize) -> bool
-    requires { ⌜ corner < 4 ⌝ }
-{
-    let prices = region.prices;
-    let at = 2 * (node % WORDS + corner);
-    (corner <= region.top as usize)
-        & (word(words, at) == prices[corner] as usize)
-        & (word(words, at + 1) == steps)
-}
-
-// A word. Those of every node are there; past the last the first come again.
-fn word(words: &[u32; WORDS], at: usize) -> usize {
-    searches::wide(words[at % WORDS])
+// Whether they say so of a node. Those of every node are there; past the last the first come again.
+fn costs(words: &[u32; WORDS], node: usize, price: u32, steps: u32) -> bool {
+    let at = node % 3000 * 2;
+    (words[at] == price) & (words[at + 1] == steps)
 }

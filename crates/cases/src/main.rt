@@ -1,17 +1,19 @@
 // Runs the script on standard input, a case to a line, and prints what comes out. The script's first lines say how a case is written.
+mod cells;
 mod chains;
+mod operations;
+mod places;
 mod plans;
+mod print;
 mod readings;
+mod scripts;
 mod searches;
+mod tokens;
 
 ghost use Rattle.table.specs.Held.{IsTable};
+use crate::tokens::TOKENS;
 use libc::STDIN_FILENO;
 use reader::Verdict;
-use region_cases::corners;
-use region_cases::scripts;
-use script::print;
-use script::tokens;
-use script::tokens::TOKENS;
 use table::TABLE;
 
 // Of a script the first 65,536 bytes are run.
@@ -21,25 +23,25 @@ fn main() {
     run(&script[..n]);
 }
 
-// Runs each line that has its end.
+// Runs each line that has its end, with it.
 fn run(script: &[u8]) {
     let mut from = 0;
     for at in 0..script.len() {
         if script[at] == b'\n' {
-            run_line(&script[from..at]);
-            from = at + 1;
+            let end = at + 1;
+            run_line(&script[from..end]);
+            from = end;
         }
     }
 }
 
-// Where too many tokens were read, there may be fewer now than before the colon.
+// Splits a line, and runs it.
 fn run_line(line: &[u8]) {
     let mut numbers = [0usize; TOKENS];
     let mut bytes = [0u8; TOKENS];
-    let read = tokens::read(line, &mut numbers, &mut bytes);
-    let count = read.count;
-    let end = read.end % (count + 1);
-    called(line, &numbers, end, &bytes[end..count]);
+    tokens::read(line, &mut numbers);
+    let count = tokens::bytes(line, &mut bytes);
+    called(numbers[0], line, &numbers, &bytes[..count]);
 }
 
 // The names of the calls as tokens, by their last five letters; and what begins a title and a comment.
@@ -59,39 +61,36 @@ const TITLE: usize = 0x3d00_0000;
 
 const COMMENT: usize = 0x2300_0000;
 
-// Runs a call: the first token is its name, those up to the colon are its numbers, and behind it are the bytes of a table. A title is printed as it
+// Runs a call: the first token is its name, the others are its numbers, and behind the colon are the bytes of a table. A title is printed as it
 // stands.
-fn called(line: &[u8], numbers: &[usize; TOKENS], end: usize, bytes: &[u8]) {
-    match tokens::at(numbers, 0) {
-        PLAN => plans::plan(tokens::at(numbers, 1), tokens::at(numbers, 2), bytes),
+fn called(name: usize, line: &[u8], numbers: &[usize; TOKENS], bytes: &[u8]) {
+    match name {
+        PLAN => plans::plan(numbers, bytes),
         REGION => scripts::region(numbers),
-        CORNERS => corners::corners(tokens::at(numbers, 1)),
-        READ | SEARCH | CHAIN => of_table(numbers, end, bytes),
+        CORNERS => cells::corners(scripts::timers(numbers)),
+        READ | SEARCH | CHAIN => of_table(numbers, bytes),
         0 | COMMENT => {}
-        TITLE => print::line(line),
-        _ => {
-            print::text(b"not understood: ");
-            print::line(line);
-        }
+        TITLE => print::text(line),
+        _ => print::unknown(line),
     }
 }
 
 // The calls that take a table, if the reader accepts its bytes.
-fn of_table(numbers: &[usize; TOKENS], end: usize, bytes: &[u8]) {
+fn of_table(numbers: &[usize; TOKENS], bytes: &[u8]) {
     let mut table = [0u8; TABLE];
     let verdict = reader::read(bytes, &mut table);
     match verdict {
         Verdict::Refused(n) => print::refused(n),
-        Verdict::Accepted => of_accepted(numbers, end, &table),
+        Verdict::Accepted => of_accepted(numbers, &table),
     }
 }
 
-fn of_accepted(numbers: &[usize; TOKENS], end: usize, table: &[u8; TABLE])
+fn of_accepted(numbers: &[usize; TOKENS], table: &[u8; TABLE])
     requires { ⌜ IsTable (now table) ⌝ }
 {
-    match tokens::at(numbers, 0) {
+    match numbers[0] {
         READ => readings::read(table),
-        SEARCH => searches::search(table, tokens::at(numbers, 1)),
-        _ => chains::chain(table, numbers, end),
+        SEARCH => searches::search(table, numbers),
+        _ => chains::chain(table, numbers),
     }
 }

@@ -2,9 +2,11 @@
 // after the call each of them is looked at, also behind the parts that were lent.
 ghost use mathlib.Core.Path.{_≡_};
 ghost use lib.ListN.{length};
+use crate::print;
+use crate::tokens::LETTER;
+use crate::tokens::TOKENS;
 use report::Written;
 use route::Answer;
-use script::print;
 
 const WORDS: usize = 129600;
 
@@ -14,11 +16,11 @@ const TEXT: usize = 1100;
 
 // Plans the bytes with the first words and route bytes lent; one more than there are counts from 0 again. Prints the answer, how many words are 0
 // then, how many behind them are still 7, and how many route bytes behind the steps are still 9.
-pub fn plan(lent: usize, room: usize, bytes: &[u8]) {
+pub fn plan(numbers: &[usize; TOKENS], bytes: &[u8]) {
     let mut words = sevens();
     let mut route = [9u8; ROUTE];
-    let n = lent % 129601;
-    let m = room % 257;
+    let n = numbers[1] % LETTER % 129601;
+    let m = numbers[2] % LETTER % 257;
     let answer = route::plan(bytes, &mut words[..n], &mut route[..m]);
     show(answer, &route);
     told(&words, &route, steps(answer));
@@ -41,14 +43,13 @@ fn told(words: &[u32; WORDS], route: &[u8; ROUTE], steps: usize) {
     );
 }
 
-// Prints the answer's lines.
+// Prints the answer's lines, which are never longer than there is room.
 fn show(answer: Answer, route: &[u8; ROUTE]) {
     let mut text = [0u8; TEXT];
     let written = report::lines(answer, route, &mut text);
     if let Written::Bytes(length) = written {
-        if length <= TEXT {
-            print::text(&text[..length]);
-        }
+        let n = length % 1101;
+        print::text(&text[..n]);
     }
 }
 
@@ -62,9 +63,9 @@ fn steps(answer: Answer) -> usize {
 }
 
 // The first place from a place on where the word is not x.
-fn past(words: &[u32], from: usize, x: u32) -> usize {
+fn past(words: &[u32; WORDS], from: usize, x: u32) -> usize {
     let mut at = from;
-    while at < words.len() {
+    while at < WORDS {
         if words[at] != x {
             return at;
         }
@@ -74,9 +75,9 @@ fn past(words: &[u32], from: usize, x: u32) -> usize {
 }
 
 // The first place from a place on where the byte is not x.
-fn past_bytes(bytes: &[u8], from: usize, x: u8) -> usize {
+fn past_bytes(bytes: &[u8; ROUTE], from: usize, x: u8) -> usize {
     let mut at = from;
-    while at < bytes.len() {
+    while at < ROUTE {
         if bytes[at] != x {
             return at;
         }

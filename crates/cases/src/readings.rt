@@ -1,8 +1,8 @@
 // `read: TABLE`: the counts, the goal and E of the table that the reader takes the bytes for.
 ghost use Rattle.table.specs.Held.{IsTable};
+use crate::print;
 use regions::nodes;
 use regions::nodes::Nodes;
-use script::print;
 use table::TABLE;
 
 pub fn read(table: &[u8; TABLE])

@@ -18,6 +18,9 @@ loop-holds c = omega arith
 shared-slice-read-if1 : tie.Need-shared-slice-read-if1 Inv-loop μ-loop
 shared-slice-read-if1 c = omega arith
 
+add-end : tie.Need-add-end Inv-loop μ-loop
+add-end c = omega arith
+
 sub-run-line : tie.Need-sub-run-line Inv-loop μ-loop
 sub-run-line c = omega arith
 
@@ -29,9 +32,6 @@ part-run-line-end c = omega arith
 
 run-line-requires : tie.Need-run-line-requires Inv-loop μ-loop
 run-line-requires c κs = tt
-
-add-from : tie.Need-add-from Inv-loop μ-loop
-add-from c = omega arith
 
 add-at : tie.Need-add-at Inv-loop μ-loop
 add-at c = omega (arith, c .before .before .loop-test .taken)
@@ -55,11 +55,11 @@ run-spec =
     μ-loop
     loop-holds
     shared-slice-read-if1
+    add-end
     sub-run-line
     part-run-line-start
     part-run-line-end
     run-line-requires
-    add-from
     add-at
     loop-less
     loop-again

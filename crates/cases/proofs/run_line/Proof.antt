@@ -1,35 +1,27 @@
--- `cases::run_line` meets its contract. The bytes of a table end where the tokens end.
+-- `cases::run_line` meets its contract. The bytes of a table are the first of those held.
 -- Assumes nothing.
-use Prim.Native.Nat.{ℕ, _+_, _%_, _≤_}
-use native.Mathlib.Nat.{mod-lt}
+use mathlib.Core.Path.{sym}
+use Prim.Native.Nat.{ℕ}
 use native.Mathlib.Omega.{arith}
-use borrow.Author.Needs.{needs}
 use lib.ListN.{length-replicate}
+use lib.Seq.{length-take-le}
 use Rattle.cases.proofs.run_line.Statement.{statement}
 use Rattle.cases.proofs.run_line.Tie as tie
-
-ends : (c : tie.After-read) → (let r = c .read .result in r .end % (r .count + 1) ≤ r .count)
-ends c = omega (arith, mod-lt (c .read .result .end) {m = c .read .result .count + 1} (omega arith))
 
 read-requires : tie.Need-read-requires
 read-requires c κs = length-replicate {A = ℕ} 1024 0
 
-add-end : tie.Need-add-end
-add-end c = search needs
+bytes-requires : tie.Need-bytes-requires
+bytes-requires c κs = length-replicate {A = ℕ} 1024 0
 
-rem-end : tie.Need-rem-end
-rem-end c = search needs
+array-read-called : tie.Need-array-read-called
+array-read-called c = omega arith
 
-sub-called : tie.Need-sub-called
-sub-called c = ends (c .before .before)
+array-share-prefix-bytes : tie.Need-array-share-prefix-bytes
+array-share-prefix-bytes c = omega (arith, c .before .bytes2 .ensures)
 
-part-called-start : tie.Need-part-called-start
-part-called-start c = ends (c .before .before .before)
-
-part-called-end : tie.Need-part-called-end
-part-called-end c =
-    let read = c .before .before .before .read in
-    omega (arith, read .ensures .0 .count, read .ensures .1)
+slice-aggregate-called : tie.Need-slice-aggregate-called
+slice-aggregate-called c = sym (length-take-le _ _ (array-share-prefix-bytes (c .before)))
 
 called-requires : tie.Need-called-requires
 called-requires c κs = tt
@@ -38,14 +30,4 @@ returns : tie.Need-returns
 returns c = tt
 
 pub run-line-spec : {M : Type 1} → statement M
-run-line-spec =
-    tie.close
-    (tie.spec
-    read-requires
-    add-end
-    rem-end
-    sub-called
-    part-called-start
-    part-called-end
-    called-requires
-    returns)
+run-line-spec = tie.close (tie.spec read-requires bytes-requires array-read-called array-share-prefix-bytes slice-aggregate-called called-requires returns)

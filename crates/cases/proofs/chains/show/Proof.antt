@@ -1,7 +1,7 @@
 -- `cases::chains::show` meets its contract.
 -- Assumes nothing.
 use mathlib.Core.Path.{refl}
-use Rattle.region_cases.proofs.Steps.{node-ready}
+use Rattle.cases.proofs.Steps.{node-ready}
 use Rattle.cases.proofs.chains.show.Statement.{statement}
 use Rattle.cases.proofs.chains.show.Tie as tie
 

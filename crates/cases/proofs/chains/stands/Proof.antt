@@ -6,16 +6,31 @@ use Rattle.cases.proofs.chains.stands.Statement.{statement}
 use Rattle.cases.proofs.chains.stands.Tie as tie
 
 abbrev Inv-loop : tie.InvT-loop
-Inv-loop words node region steps some₀ corner₀ some corner = corner ≤ 4
+Inv-loop words node steps prices some₀ corner₀ corner-end some corner = (corner ≤ corner-end) × (corner-end ≤ 4)
 
 abbrev μ-loop : tie.MeasureT-loop
-μ-loop words node region steps some₀ corner₀ some corner = 4 - corner
+μ-loop words node steps prices some₀ corner₀ corner-end some corner = corner-end - corner
+
+cast-corner-end : tie.Need-cast-corner-end Inv-loop μ-loop
+cast-corner-end c = omega arith
+
+add-corner-end : tie.Need-add-corner-end Inv-loop μ-loop
+add-corner-end c = omega arith
 
 loop-holds : tie.Need-loop-holds Inv-loop μ-loop
 loop-holds c = omega arith
 
+add-costs : tie.Need-add-costs Inv-loop μ-loop
+add-costs c = omega arith
+
+mul-costs : tie.Need-mul-costs Inv-loop μ-loop
+mul-costs c = omega arith
+
+array-read-costs : tie.Need-array-read-costs Inv-loop μ-loop
+array-read-costs c = omega arith
+
 costs-requires : tie.Need-costs-requires Inv-loop μ-loop
-costs-requires c κs = omega arith
+costs-requires c κs = tt
 
 add-corner : tie.Need-add-corner Inv-loop μ-loop
 add-corner c = omega arith
@@ -35,7 +50,12 @@ stands-spec =
     (tie.spec
     Inv-loop
     μ-loop
+    cast-corner-end
+    add-corner-end
     loop-holds
+    add-costs
+    mul-costs
+    array-read-costs
     costs-requires
     add-corner
     loop-less

@@ -5,7 +5,7 @@ use Prim.Native.Nat.{ℕ, _%_, _≤_}
 use native.Mathlib.Nat.{mod-lt}
 use native.Mathlib.Omega.{arith}
 use lib.Dec.{lit<}
-use lib.ListN.{length, replicate, length-replicate}
+use lib.ListN.{length, getD, replicate, length-replicate}
 use lib.Seq.{length-take-le}
 use Rattle.cases.proofs.plans.plan.Statement.{statement}
 use Rattle.cases.proofs.plans.plan.Tie as tie
@@ -20,18 +20,26 @@ room-few room = omega (arith, length-replicate {A = ℕ} 256 9, mod-lt room {m =
 sevens-requires : tie.Need-sevens-requires
 sevens-requires c κs = tt
 
+element-copy-out-n : tie.Need-element-copy-out-n
+element-copy-out-n c = omega arith
+
+element-copy-out-m : tie.Need-element-copy-out-m
+element-copy-out-m c = omega arith
+
 array-borrow-prefix-words : tie.Need-array-borrow-prefix-words
-array-borrow-prefix-words c = omega (arith, lent-few (c .before .before .args .lent), c .sevens .ensures)
+array-borrow-prefix-words c =
+    let held = c .before .before in
+    omega (arith, lent-few (getD (held .before .before .args .numbers .now) 1 0 % 16777216), held .sevens .ensures)
 
 slice-aggregate-plan : tie.Need-slice-aggregate-plan
-slice-aggregate-plan c = sym (length-take-le _ (c .before .sevens .result) (array-borrow-prefix-words (c .before)))
+slice-aggregate-plan c = sym (length-take-le _ (c .before .before .before .sevens .result) (array-borrow-prefix-words (c .before)))
 
 array-borrow-prefix-route : tie.Need-array-borrow-prefix-route
-array-borrow-prefix-route c = room-few (c .before .before .before .args .room)
+array-borrow-prefix-route c = room-few (getD (c .before .before .before .before .before .args .numbers .now) 2 0 % 16777216)
 
 slice-aggregate-plan-2 : tie.Need-slice-aggregate-plan-2
 slice-aggregate-plan-2 c =
-    let room = c .before .before .before .before .args .room in
+    let room = getD (c .before .before .before .before .before .before .args .numbers .now) 2 0 % 16777216 in
     sym (length-take-le (room % 257) (replicate {A = ℕ} 256 9) (room-few room))
 
 plan-requires : tie.Need-plan-requires
@@ -54,6 +62,8 @@ plan-spec =
     tie.close
     (tie.spec
     sevens-requires
+    element-copy-out-n
+    element-copy-out-m
     array-borrow-prefix-words
     slice-aggregate-plan
     array-borrow-prefix-route

@@ -1,6 +1,7 @@
 -- `cases::plans::show` meets its contract.
 -- Assumes nothing.
 use mathlib.Core.Path.{sym}
+use Prim.Native.Nat.{_%_}
 use borrow.Author.Needs.{needs}
 use lib.Seq.{length-take-le}
 use Rattle.cases.proofs.plans.show.Statement.{statement}
@@ -19,10 +20,7 @@ array-share-prefix-text : tie.Need-array-share-prefix-text
 array-share-prefix-text c = search needs
 
 slice-aggregate-text : tie.Need-slice-aggregate-text
-slice-aggregate-text c =
-    let test = c .before .before in
-    let lines = test .before .before .before .before .lines in
-    sym (length-take-le (test .before .written .given .0 .0) (lines .last .1 .1 .0) (array-share-prefix-text (c .before)))
+slice-aggregate-text c = sym (length-take-le _ _ (array-share-prefix-text (c .before)))
 
 text-requires : tie.Need-text-requires
 text-requires c κs = tt
@@ -36,20 +34,5 @@ returns c = tt
 returns-2 : tie.Need-returns-2
 returns-2 c = tt
 
-returns-3 : tie.Need-returns-3
-returns-3 c = tt
-
 pub show-spec : {M : Type 1} → statement M
-show-spec =
-    tie.close
-    (tie.spec
-    slice-aggregate-lines
-    lines-requires
-    enum-known-written
-    array-share-prefix-text
-    slice-aggregate-text
-    text-requires
-    enum-told
-    returns
-    returns-2
-    returns-3)
+show-spec = tie.close (tie.spec slice-aggregate-lines lines-requires enum-known-written array-share-prefix-text slice-aggregate-text text-requires enum-told returns returns-2)

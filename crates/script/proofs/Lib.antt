@@ -1,2 +1,0 @@
--- The law that a function's proof cites.
-pub mod Numbers

@@ -1,2 +1,0 @@
--- What was read of a line.
-pub mod Line

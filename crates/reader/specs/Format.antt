@@ -3,7 +3,7 @@
 use Prim.Native.Nat.{ℕ, _-_, _/_, _%_, _^_}
 use mathlib.Core.Bool.{Bool, true, false, cond, _&&_}
 use mathlib.Core.List.{List}
-use lib.Dec.{leb, ltb, eqb}
+use lib.Dec.{leb, ltb}
 use Rattle.reader.specs.Parser.{Parser, done, refuse, byte, _>>=_, inOrder}
 use Rattle.table.specs.Fields.{ModeFields, MoveFields, Fields}
 use Rattle.table.specs.Meaning.{stands}

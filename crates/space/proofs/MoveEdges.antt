@@ -4,14 +4,14 @@ use mathlib.Core.Path.{_≡_, refl, sym, ap, _∙_}
 use mathlib.Core.Bool.{Bool, true, false, cond}
 use mathlib.Core.Logic.{_↔_}
 use mathlib.Core.List.{List}
-use Prim.Native.Nat.{ℕ, _+_, _*_, _≤_, _<_}
+use Prim.Native.Nat.{ℕ, _+_, _*_, _<_}
 use native.Mathlib.Nat.{add-mul, mul-assoc}
 use native.Mathlib.Decide.{decLt}
 use native.Mathlib.Omega.{arith}
-use lib.ListN.{length, List·getD-eq-default}
+use lib.ListN.{length}
 use Rattle.semantics.specs.Automata.Proper.{Proper}
 use Rattle.semantics.specs.Automaton.{Automaton, moveAt}
-use Rattle.semantics.specs.Region.{PricedRegion, WellFormed, resetAll, meetsAll}
+use Rattle.semantics.specs.Region.{PricedRegion, resetAll, meetsAll}
 use Rattle.semantics.specs.Run.{among}
 use Rattle.semantics.specs.NodeCount.{cellCount, cornerCount}
 use Rattle.semantics.specs.Nodes.Node.{cellNumber, nodeOf, nodeNumber}
@@ -31,13 +31,7 @@ use Rattle.space.specs.declared.Space.{Space}
 use Rattle.space.specs.Space.{IsSpace}
 use Rattle.space.specs.Halves.{half-resets}
 use Rattle.space.specs.Moves.{Open}
-use Rattle.space.proofs.Settings.{place-halves, halvesOf, halves-at}
-
--- A timer that is not there is at 0.
-absent-half : (r : PricedRegion) → WellFormed r → (x : ℕ) → length (r .whole) ≤ x → half r x ≡ 0
-absent-half r w x h =
-    let g : length (r .group) ≤ x = rw (w .paired) h in
-    rw (List·getD-eq-default (r .whole) 0 h, List·getD-eq-default (r .group) 0 g) refl
+use Rattle.space.proofs.Settings.{place-halves, halves-behind, halvesOf, halves-at}
 
 cond-zero : (b : Bool) (h : ℕ) → h ≡ 0 → cond b 0 h ≡ 0
 cond-zero true h e = refl
@@ -67,8 +61,8 @@ module _ (t rs : List ℕ) (table : IsTable t) (rules : IsRules t rs) (p : Place
       at : Dec (x < length (p .region .whole)) → half (resetAll xs (p .region)) x ≡ cond (among x xs) 0 (half (p .region) x)
       at (yes b) = half-resets xs (p .region) (place .well-formed) (λ y m. rw (place .cell .sized) (resets-in a ok e y m)) x b
       at (no n) =
-          absent-half (movedTo a e p .region) (after .well-formed) x (omega (arith, after .cell .sized, place .cell .sized))
-          ∙ sym (cond-zero (among x xs) (half (p .region) x) (absent-half (p .region) (place .well-formed) x (omega arith)))
+          halves-behind (movedTo a e p .region) (after .well-formed) x (omega (arith, after .cell .sized, place .cell .sized))
+          ∙ sym (cond-zero (among x xs) (half (p .region) x) (halves-behind (p .region) (place .well-formed) x (omega arith)))
 
   tests :
       Open rs (halvesOf (p .region)) e

@@ -1,7 +1,6 @@
 -- `cases::plans::show` meets its contract.
 -- Assumes nothing.
 use mathlib.Core.Path.{sym}
-use Prim.Native.Nat.{_%_}
 use borrow.Author.Needs.{needs}
 use lib.Seq.{length-take-le}
 use Rattle.cases.proofs.plans.show.Statement.{statement}

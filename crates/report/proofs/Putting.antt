@@ -4,7 +4,7 @@ use mathlib.Core.Path.{_≡_, sym, ap, ap₂, _∙_}
 use mathlib.Core.List.{List, [], _++_, append-assoc, append-nil}
 use Prim.Native.Nat.{ℕ, _+_, _≤_}
 use native.Mathlib.Omega.{arith}
-use lib.ListN.{length, take, drop, length-append, length-drop, take-append-drop}
+use lib.ListN.{length, take, drop, length-append, take-append-drop}
 use lib.Seq.{paste, length-take-le, take-length, take-at, drop-append-add, drop-drop}
 use Rattle.report.specs.Put.{Put}
 
@@ -27,18 +27,6 @@ module _ {w : List ℕ} {place : ℕ} {d : List ℕ} {next : ℕ} {e : List ℕ}
 
   front-text : length (take place d ++ w) ≡ next
   front-text = omega (arith, length-append (take place d) w, front, p .behind)
-
-  -- The bytes stay as many.
-  pub put-length : length e ≡ length d
-  put-length =
-      omega (
-        arith,
-        ap length (p .bytes),
-        length-append (take place d ++ w) (drop (place + length w) d),
-        front-text,
-        p .behind,
-        length-drop (place + length w) d,
-      )
 
   -- Up to the place behind the text; and from there on.
   put-front : take next e ≡ take place d ++ w

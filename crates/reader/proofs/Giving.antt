@@ -9,6 +9,7 @@ use mathlib.Core.List.{List}
 use borrow.Author.Tests.{le-leb, lt-leb, eq-eqb, ne-eqb, le-ltb, lt-ltb}
 use lib.Dec.{eqb}
 use lib.ListN.{length, getD, drop}
+use Rattle.semantics.specs.Distinct.{distinct}
 use Rattle.reader.specs.Parser.{Parser, done, refuse, _>>=_, Outcome, refused, took, run}
 use Rattle.reader.specs.Format.{within, amount, present, bitMap}
 use Rattle.reader.specs.Step.{Gives, refuses, gives}
@@ -18,7 +19,7 @@ use Rattle.reader.specs.Theorems.Running.{run-bind, run-byte, run-none, 
 module _ {A B C D : Type 0} (q : A → Parser B) (pair : A → B → C) (f : A → B → Parser D) where
   second-refused : (r : ℕ) (a : A) (o : Outcome B) → andThen o (λ b. done (pair a b)) ≡ refused r → andThen o (f a) ≡ refused r
   second-refused r a (refused n) e = let same : n ≡ r = cc in ap (λ (k : ℕ). refused k) same
-  second-refused r a (took b s) e = let z : _≡_ {A = ℕ} 0 1 = cc in absurd (omega arith)
+  second-refused r a (took b s) e = distinct cc
 
   either-refused : (r : ℕ) (o : Outcome A) → andThen o (λ a. q a >>= λ b. done (pair a b)) ≡ refused r → andThen o (λ a. q a >>= f a) ≡ refused r
   either-refused r (refused n) e = let same : n ≡ r = cc in ap (λ (k : ℕ). refused k) same

@@ -17,7 +17,7 @@ use Rattle.table.specs.Meaning.{conditionsFrom, automaton}
 use Rattle.reader.specs.Read.{read}
 use Rattle.table.specs.Held.{pad, flat, modeBytes, moveBytes, held}
 use Rattle.reader.specs.Reading.{Reading}
-use Rattle.reader.specs.Step.{Gives, refuses, gives, Wrote, Writes, HeaderWrote, WritesHeader, headerBytes, Contains, Judges, rejects, accepts}
+use Rattle.reader.specs.Step.{Gives, refuses, gives, Wrote, Reads, HeaderWrote, WritesHeader, headerBytes, Contains, Judges, rejects, accepts}
 use Rattle.reader.specs.declared.records.Next.{Next}
 use Rattle.reader.specs.declared.Verdict.the-variants.{Accepted, Refused}
 use Rattle.reader.specs.Theorems.Exactly.{taken}
@@ -96,7 +96,7 @@ module _ {bytes t₀ t₁ : List ℕ} {r₁ : ℕ} (gh : WritesHeader bytes t₀
   header-refused z = part-refused header _ bytes z gh
 
   module _ (z : r₁ ≡ 0) {t₂ : List ℕ} (c : Next) (n m e : ℕ) (en : n ≡ getD t₁ 1 0) (em : m ≡ getD t₁ 0 0) (ee : e ≡ getD t₁ 2 0)
-      (gc : Writes (λ cs. cs) n (inOrder (λ i. within 2 1 15) 0 n) bytes 4 t₁ 4 t₂ c) where
+      (gc : Reads (inOrder (λ i. within 2 1 15) 0 n) bytes 4 c (λ cs. Wrote n t₁ 4 t₂ cs)) where
     -- The counts are those of the header.
     timers-are : {h : Header} → HeaderWrote t₀ t₁ h → n ≡ h .timers
     timers-are k = en ∙ ap (λ (l : List ℕ). getD l 1 0) (k .is)
@@ -113,7 +113,7 @@ module _ {bytes t₀ t₁ : List ℕ} {r₁ : ℕ} (gh : WritesHeader bytes t₀
         part-taken header _ bytes z gh (λ h q k. rw (← timers-are k) (part-refused (inOrder (λ i. within 2 1 15) 0 n) _ (drop 4 bytes) y gc))
 
     module _ (y : c .refusal ≡ 0) {t₃ : List ℕ} (o : Next)
-        (gm : Writes (λ ms. flat (map modeBytes ms)) (8 * m) (inOrder (λ i. modeRecord n) 0 m) bytes (c .next) t₂ 8 t₃ o) where
+        (gm : Reads (inOrder (λ i. modeRecord n) 0 m) bytes (c .next) o (λ ms. Wrote (8 * m) t₂ 8 t₃ (flat (map modeBytes ms)))) where
       pub modes-refused : {k : ℕ} {P : Fields → Type 0} → (o .refusal ≡ 0 → ⊥) → Gives bytes (o .refusal) k P (run table bytes)
       unfolding table
       modes-refused x =
@@ -123,7 +123,7 @@ module _ {bytes t₀ t₁ : List ℕ} {r₁ : ℕ} (gh : WritesHeader bytes t₀
 
       -- The whole table is held.
       pub all-held : t₀ ≡ replicate 904 0 → o .refusal ≡ 0 → {t₄ : List ℕ} (r : Next) →
-          Writes (λ es. flat (map moveBytes es)) (12 * e) (inOrder (λ i. moveRecord m n) 0 e) bytes (o .next) t₃ 136 t₄ r → Contains bytes t₄ r
+          Reads (inOrder (λ i. moveRecord m n) 0 e) bytes (o .next) r (λ es. Wrote (12 * e) t₃ 136 t₄ (flat (map moveBytes es))) → Contains bytes t₄ r
       unfolding table held
       all-held blank x {t₄} r ge =
           part-taken header _ bytes z gh (λ h q k. rw (← timers-are k, ← modes-are k, ← moves-are k)

@@ -33,17 +33,17 @@ pub record Wrote (wide : ℕ) (t : List ℕ) (at : ℕ) (t′ xs : List ℕ) : T
   pub is : t′ ≡ sets t at xs
   pub long : length xs ≡ wide
 
--- What the parser gives from the place `from` on is written into t from `at` on, as so many bytes.
-abbrev pub Writes : {A : Type 0} → (A → List ℕ) → ℕ → Parser A → List ℕ → ℕ → List ℕ → ℕ → List ℕ → Next → Type 0
-Writes enc wide p bytes from t at t′ r = Gives bytes (r .refusal) (r .next) (λ a. Wrote wide t at t′ (enc a)) (run p (drop from bytes))
+-- P holds of what the parser gives from the place `from` on.
+abbrev pub Reads : {A : Type 0} → Parser A → List ℕ → ℕ → Next → (A → Type 0) → Type 0
+Reads p bytes from r P = Gives bytes (r .refusal) (r .next) P (run p (drop from bytes))
 
 -- A byte in its range is written where it stands.
 pub record Copied (low high : ℕ) (t : List ℕ) (at : ℕ) (t′ : List ℕ) (b : ℕ) : Type 0 where
   pub is : t′ ≡ set t at b
   pub range : (low ≤ b) × (b ≤ high)
 
-abbrev pub Copies : ℕ → ℕ → List ℕ → ℕ → List ℕ → List ℕ → ℕ → Type 0
-Copies low high bytes at t t′ r = Gives bytes r (at + 1) (Copied low high t at t′) (run (within 2 low high) (drop at bytes))
+abbrev pub Copies : List ℕ → ℕ → ℕ → ℕ → ℕ → (ℕ → Type 0) → Type 0
+Copies bytes low high at r P = Gives bytes r (at + 1) P (run (within 2 low high) (drop at bytes))
 
 abbrev pub headerBytes : Header → List ℕ
 headerBytes h = h .modes ∷ h .timers ∷ h .moves ∷ h .goal ∷ []

@@ -6,7 +6,7 @@ ghost use lib.ListN.{length, replicate};
 ghost use Rattle.reader.specs.Parser.{inOrder};
 ghost use Rattle.reader.specs.Format.{within, conditions, modeRecord, moveRecord};
 ghost use Rattle.table.specs.Held.{flat, modeBytes, moveBytes};
-ghost use Rattle.reader.specs.Step.{Copies, WritesHeader, Writes, Contains, priced, ends, resets, endBytes, resetBytes};
+ghost use Rattle.reader.specs.Step.{Wrote, Reads, Copied, Copies, WritesHeader, Contains, priced, ends, resets, endBytes, resetBytes};
 use crate::ABSENT_TIMER;
 use crate::BAD_CODE;
 use crate::CONDITIONS;
@@ -42,7 +42,7 @@ pub struct Next {
 // A byte from low to high that stands in the table where it stands in the bytes: gives a refusal's number or 0.
 fn copied(bytes: &[u8], at: usize, low: u8, high: u8, table: &mut [u8; TABLE]) -> u8
     requires { ⌜ at < 904 ⌝ }
-    ensures { λ r. ⌜ Copies low high (now (bytes .entry)) at (now (table .entry)) (now (table .exit)) r ⌝ }
+    ensures { λ r. ⌜ Copies (now (bytes .entry)) low high at r (Copied low high (now (table .entry)) at (now (table .exit))) ⌝ }
 {
     let b = byte_within(bytes, at, OUT_OF_RANGE, low, high);
     table[at] = b.value;
@@ -74,7 +74,7 @@ fn header(bytes: &[u8], table: &mut [u8; TABLE]) -> u8
 fn ceilings(bytes: &[u8], timers: u8, table: &mut [u8; TABLE]) -> Next
     requires { ⌜ timers ≤ 3 ⌝ }
     ensures { λ r. ⌜
-        Writes (λ cs. cs) timers (inOrder (λ i. within 2 1 15) 0 timers) (now (bytes .entry)) 4 (now (table .entry)) 4 (now (table .exit)) r
+        Reads (inOrder (λ i. within 2 1 15) 0 timers) (now (bytes .entry)) 4 r (λ cs. Wrote timers (now (table .entry)) 4 (now (table .exit)) cs)
         ⌝ }
 {
     for i in 0..timers as usize {
@@ -92,7 +92,7 @@ fn ceilings(bytes: &[u8], timers: u8, table: &mut [u8; TABLE]) -> Next
 // The six conditions of a record, each where its bit stands.
 fn conditions(bytes: &[u8], from: usize, map: u8, table: &mut [u8; TABLE], at: usize) -> Next
     requires { ⌜ at + 6 ≤ 904 ⌝ }
-    ensures { λ r. ⌜ Writes (λ cs. cs) 6 (conditions map) (now (bytes .entry)) from (now (table .entry)) at (now (table .exit)) r ⌝ }
+    ensures { λ r. ⌜ Reads (conditions map) (now (bytes .entry)) from r (λ cs. Wrote 6 (now (table .entry)) at (now (table .exit)) cs) ⌝ }
 {
     let mut next = from;
     for i in 0..CONDITIONS {
@@ -113,7 +113,7 @@ fn conditions(bytes: &[u8], from: usize, map: u8, table: &mut [u8; TABLE], at: u
 // A rate or a price, its high byte 0, and the conditions behind it.
 fn priced(bytes: &[u8], from: usize, map: u8, table: &mut [u8; TABLE], at: usize) -> Next
     requires { ⌜ at + 8 ≤ 904 ⌝ }
-    ensures { λ r. ⌜ Writes modeBytes 8 (priced map) (now (bytes .entry)) from (now (table .entry)) at (now (table .exit)) r ⌝ }
+    ensures { λ r. ⌜ Reads (priced map) (now (bytes .entry)) from r (λ a. Wrote 8 (now (table .entry)) at (now (table .exit)) (modeBytes a)) ⌝ }
 {
     let a = amount(bytes, from, map);
     if a.refusal != 0 {
@@ -130,7 +130,7 @@ fn priced(bytes: &[u8], from: usize, map: u8, table: &mut [u8; TABLE], at: usize
 // A mode record.
 fn mode_record(bytes: &[u8], from: usize, timers: u8, table: &mut [u8; TABLE], at: usize) -> Next
     requires { ⌜ (timers ≤ 3) × (at + 8 ≤ 904) ⌝ }
-    ensures { λ r. ⌜ Writes modeBytes 8 (modeRecord timers) (now (bytes .entry)) from (now (table .entry)) at (now (table .exit)) r ⌝ }
+    ensures { λ r. ⌜ Reads (modeRecord timers) (now (bytes .entry)) from r (λ a. Wrote 8 (now (table .entry)) at (now (table .exit)) (modeBytes a)) ⌝ }
 {
     let map = bit_map(bytes, from, 127, timers);
     if map.refusal != 0 {
@@ -145,7 +145,7 @@ fn mode_record(bytes: &[u8], from: usize, timers: u8, table: &mut [u8; TABLE], a
 // The from mode and the to mode of a move.
 fn ends(bytes: &[u8], from: usize, modes: u8, table: &mut [u8; TABLE], at: usize) -> Next
     requires { ⌜ (0 < modes) × (at + 2 ≤ 904) ⌝ }
-    ensures { λ r. ⌜ Writes endBytes 2 (ends modes) (now (bytes .entry)) from (now (table .entry)) at (now (table .exit)) r ⌝ }
+    ensures { λ r. ⌜ Reads (ends modes) (now (bytes .entry)) from r (λ a. Wrote 2 (now (table .entry)) at (now (table .exit)) (endBytes a)) ⌝ }
 {
     let source = byte_within(bytes, from, NO_SUCH_MODE, 0, modes - 1);
     if source.refusal != 0 {
@@ -173,7 +173,7 @@ fn resets(
     at: usize,
 ) -> Next
     requires { ⌜ (timers ≤ 3) × (at + 2 ≤ 904) ⌝ }
-    ensures { λ r. ⌜ Writes resetBytes 2 (resets map timers) (now (bytes .entry)) from (now (table .entry)) at (now (table .exit)) r ⌝ }
+    ensures { λ r. ⌜ Reads (resets map timers) (now (bytes .entry)) from r (λ a. Wrote 2 (now (table .entry)) at (now (table .exit)) (resetBytes a)) ⌝ }
 {
     let stands = (map >> 7) % 2 == 1;
     let b = optional(bytes, from, stands, ABSENT_TIMER, 0, names(timers) - 1);
@@ -195,7 +195,7 @@ fn move_record(
     at: usize,
 ) -> Next
     requires { ⌜ (0 < modes) × (timers ≤ 3) × (at + 12 ≤ 904) ⌝ }
-    ensures { λ r. ⌜ Writes moveBytes 12 (moveRecord modes timers) (now (bytes .entry)) from (now (table .entry)) at (now (table .exit)) r ⌝ }
+    ensures { λ r. ⌜ Reads (moveRecord modes timers) (now (bytes .entry)) from r (λ a. Wrote 12 (now (table .entry)) at (now (table .exit)) (moveBytes a)) ⌝ }
 {
     let map = bit_map(bytes, from, 255, timers);
     if map.refusal != 0 {
@@ -219,8 +219,8 @@ fn move_record(
 fn mode_records(bytes: &[u8], from: usize, timers: u8, modes: u8, table: &mut [u8; TABLE]) -> Next
     requires { ⌜ (timers ≤ 3) × (modes ≤ 16) ⌝ }
     ensures { λ r. ⌜
-        Writes (λ ms. flat (map modeBytes ms)) (8 * modes) (inOrder (λ i. modeRecord timers) 0 modes) (now (bytes .entry)) from
-        (now (table .entry)) 8 (now (table .exit)) r
+        Reads (inOrder (λ i. modeRecord timers) 0 modes) (now (bytes .entry)) from r
+        (λ ms. Wrote (8 * modes) (now (table .entry)) 8 (now (table .exit)) (flat (map modeBytes ms)))
         ⌝ }
 {
     let mut next = from;
@@ -246,8 +246,8 @@ fn move_records(
 ) -> Next
     requires { ⌜ (timers ≤ 3) × (0 < modes) × (moves ≤ 64) ⌝ }
     ensures { λ r. ⌜
-        Writes (λ es. flat (map moveBytes es)) (12 * moves) (inOrder (λ i. moveRecord modes timers) 0 moves) (now (bytes .entry)) from
-        (now (table .entry)) 136 (now (table .exit)) r
+        Reads (inOrder (λ i. moveRecord modes timers) 0 moves) (now (bytes .entry)) from r
+        (λ es. Wrote (12 * moves) (now (table .entry)) 136 (now (table .exit)) (flat (map moveBytes es)))
         ⌝ }
 {
     let mut next = from;

@@ -9,6 +9,7 @@ use native.Mathlib.Omega.{arith}
 use lib.Dec.{leb}
 use lib.ListN.{length, getD, take, drop, length-append, length-take}
 use lib.Seq.{getD-take}
+use Rattle.semantics.specs.Distinct.{distinct}
 use Rattle.route.specs.declared.Answer.{Answer}
 use Rattle.route.specs.declared.Answer.the-variants.{Refused, NoRoute, Route}
 use Rattle.report.specs.Lines.{decimal, chargeText, routeText, refusedText, stepTexts, lines}
@@ -74,4 +75,4 @@ written-within answer rs d {w} {n} {e} q t = go (leb (room (length rs)) (length 
         omega (arith, ap (λ f. length (f .bytes)) q, length-append (lines answer rs) (drop (length (lines answer rs)) d))
     go false q =
         let clash : Bytes n ≡ TooShort = ap (λ f. f .written) q in
-        absurd (let z : _≡_ {A = ℕ} 0 1 = cc in omega arith)
+        distinct cc

@@ -8,6 +8,7 @@ use native.Mathlib.Decide.{ℕ-discrete}
 use native.Mathlib.Omega.{arith}
 use lib.ListN.{length, getD, take, drop, replicate, length-append, length-drop, length-replicate, getD-replicate, List·getD-append}
 use lib.Seq.{length-take-le, drop-at}
+use Rattle.semantics.specs.Distinct.{distinct}
 use Rattle.semantics.specs.Order.{Cost, cost}
 use Rattle.semantics.specs.Graph.Path.{Graph, HasCost, unreached, reached, infinity, chargeAt, table}
 use Rattle.semantics.specs.Graph.Near.{turned}
@@ -100,7 +101,7 @@ module _ (nodes start : ℕ) (ws : List ℕ) (r : SeedReady nodes start ws) wher
       where
         at : Dec (v ≡ start) → (v ≡ start) × (a ≡ cost 0 0)
         at (yes e) = (e, let o = own-entry in let p : costsIn nodes ws′ start ≡ reached a = rw e at q in cc)
-        at (no n) = absurd (let o = other-entry v h n in let z : _≡_ {A = ℕ} 0 1 = cc in omega arith)
+        at (no n) = absurd (let o = other-entry v h n in distinct cc)
 
     -- A search from it has begun: nothing is settled.
     pub seeded-between : (g : Graph) → g .nodes ≡ nodes → Between g start nodes 0 ws′

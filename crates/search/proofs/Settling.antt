@@ -10,6 +10,7 @@ use native.Mathlib.Omega.{arith}
 use borrow.Author.Tests.{eq-eqb, ne-eqb, lt-ltb, le-ltb, le-leb, lt-leb}
 use lib.Dec.{eqb, ltb, leb}
 use lib.ListN.{length, drop}
+use Rattle.semantics.specs.Distinct.{distinct}
 use Rattle.semantics.specs.Order.{Cost, cost}
 use Rattle.semantics.specs.Graph.Path.{Edge, Target, Entry, unreached, reached, infinity, chargeAt, stepsAt}
 use Rattle.semantics.specs.Paths.Explored.{Explored}
@@ -115,7 +116,7 @@ module _ {t : List ℕ} {s : Space} {goal : ℕ} {ws₀ ws : List ℕ} {node : �
   turn-none past r charge steps =
       let empty : slotAt ws 1 ≡ none = at (turn .between .queue .words .slots 1 (omega arith) (omega (arith, turn .between .queue .words .two))) in
       let entry : costEntry r ≡ unreached = rw (eq-eqb (r .charge) infinity charge) refl in
-      found r unreached entry (λ q. steps) (none-explored (turn .between) empty) (λ a q. absurd (let z : _≡_ {A = ℕ} 0 1 = cc in omega arith))
+      found r unreached entry (λ q. steps) (none-explored (turn .between) empty) (λ a q. distinct cc)
       (none-best (turn .between) empty)
     where
       at : Seated (s .nodes) (slotAt ws 1) → slotAt ws 1 ≡ none

@@ -19,7 +19,9 @@ pub mod Order
 pub mod Answer
 -- What demand 3 says of a charge, over runs.
 pub mod Demand
--- Theory, which nobody has to believe. What the theorems ask of an automaton.
+-- Theory, which nobody has to believe. Constructors are distinct.
+pub mod Distinct
+-- What the theorems ask of an automaton.
 pub mod Automata
 -- The laws of priced regions.
 pub mod Regions

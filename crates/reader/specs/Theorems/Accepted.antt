@@ -1,10 +1,10 @@
 -- The bytes of an accepted table are a table, and hold the fields that were read.
 -- Assumes nothing.
 use Prim.Native.Nat.{ℕ, _<_}
-use native.Mathlib.Omega.{arith}
 use mathlib.Core.Path.{_≡_, refl, sym, subst, _∙_}
 use mathlib.Core.List.{List}
 use lib.ListN.{length, getD}
+use Rattle.semantics.specs.Distinct.{distinct}
 use Rattle.table.specs.Fields.{Fields}
 use Rattle.table.specs.Held.{held, InRange, IsTable}
 use Rattle.table.specs.Theorems.Holding.{Shaped, held-table}
@@ -59,7 +59,7 @@ module _ (bytes t : List ℕ) (v : Verdict) (small : (i : ℕ) → getD bytes i 
     where
       go : (j : Judgement) → read bytes ≡ j → Reading j v t → Accepts bytes t
       go (accepted f) e r = record { fields = f; accepts = e; holds = r .table-is; range = accepted-range bytes f small e }
-      go (rejected n) e r = let no = sym met ∙ r .verdict-is in let z : _≡_ {A = ℕ} 0 1 = cc in absurd (omega arith)
+      go (rejected n) e r = let no = sym met ∙ r .verdict-is in distinct cc
 
   pub accepted-table : IsTable t
   accepted-table = let a = accepted-fields in subst IsTable (sym (a .holds)) (held-table (a .fields) (a .range))

@@ -8,6 +8,7 @@ use native.Mathlib.Omega.{arith}
 use borrow.Author.Tests.{leb-true, leb-false, le-leb, lt-leb}
 use lib.Dec.{leb}
 use lib.ListN.{length, drop, replicate}
+use Rattle.semantics.specs.Distinct.{distinct}
 use Rattle.semantics.specs.Automaton.{Automaton}
 use Rattle.semantics.specs.NodeCount.{nodeCount}
 use Rattle.semantics.specs.Graph.Near.{nearWords}
@@ -24,13 +25,13 @@ count-few e n = go (leb e mostNodes) refl
   where
     go : (b : Bool) → leb e mostNodes ≡ b → cond b (Count e) TooMany ≡ Count n → (e ≡ n) × (n ≤ mostNodes)
     go true q h = let s : e ≡ n = cc in (s, omega (arith, leb-true e mostNodes q))
-    go false q h = absurd (let z : _≡_ {A = ℕ} 0 1 = cc in omega arith)
+    go false q h = distinct cc
 
 pub count-many : (e : ℕ) → bounded e ≡ TooMany → mostNodes < e
 count-many e = go (leb e mostNodes) refl
   where
     go : (b : Bool) → leb e mostNodes ≡ b → cond b (Count e) TooMany ≡ TooMany → mostNodes < e
-    go true q h = absurd (let z : _≡_ {A = ℕ} 0 1 = cc in omega arith)
+    go true q h = distinct cc
     go false q h = leb-false e mostNodes q
 
 module _ (a : Automaton) (lent : ℕ) where
@@ -58,8 +59,8 @@ module _ (a : Automaton) (lent : ℕ) where
       go true q true r h =
           let e : n ≡ nodeCount a = cc in
           record { counted = e; few = omega (arith, leb-true (nodeCount a) mostNodes q); room = omega (arith, leb-true (2 * nodeCount a) lent r) }
-      go true q false r h = absurd (let z : _≡_ {A = ℕ} 0 1 = cc in omega arith)
-      go false q d r h = absurd (let z : _≡_ {A = ℕ} 0 1 = cc in omega arith)
+      go true q false r h = distinct cc
+      go false q d r h = distinct cc
 
 -- A refusal changes nothing.
 pub searched-refused : (a : Automaton) (l : ℕ) (ws : List ℕ) (k : ℕ) → answered a (length ws) ≡ Refused k → ws ≡ searched a l ws

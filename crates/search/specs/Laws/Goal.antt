@@ -12,6 +12,7 @@ use borrow.Author.Tests.{eqb-true, eqb-false}
 use lib.Dec.{eqb}
 use lib.ListN.{length, getD, drop, replicate, length-append, length-drop}
 use lib.Seq.{drop-at}
+use Rattle.semantics.specs.Distinct.{distinct}
 use Rattle.semantics.specs.Answer.{countFrom}
 use Rattle.semantics.specs.Corners.Corner.{flatMap}
 use Rattle.semantics.specs.Order.{Cost, cost, _≼_}
@@ -47,7 +48,7 @@ entry-none r = go (eqb (r .charge) infinity) refl
   where
     go : (b : Bool) → eqb (r .charge) infinity ≡ b → cond b unreached (reached (cost (r .charge) (r .steps))) ≡ unreached → r .charge ≡ infinity
     go true e q = eqb-true (r .charge) infinity e
-    go false e q = let z : _≡_ {A = ℕ} 0 1 = cc in absurd (omega arith)
+    go false e q = distinct cc
 
 -- What is reached has the struct's charge and steps.
 entry-some : (r : CostHeld) (c : Cost) → costEntry r ≡ reached c → (r .charge ≢ infinity) × (r .charge ≡ c .charge) × (r .steps ≡ c .steps)
@@ -56,7 +57,7 @@ entry-some r c = go (eqb (r .charge) infinity) refl
     go :
         (b : Bool) → eqb (r .charge) infinity ≡ b → cond b unreached (reached (cost (r .charge) (r .steps))) ≡ reached c
         → (r .charge ≢ infinity) × (r .charge ≡ c .charge) × (r .steps ≡ c .steps)
-    go true e q = let z : _≡_ {A = ℕ} 0 1 = cc in absurd (omega arith)
+    go true e q = distinct cc
     go false e q = (eqb-false (r .charge) infinity e, cc, cc)
 
 -- The nodes of the goal are the targets.

@@ -10,6 +10,7 @@ use native.Mathlib.Decide.{ℕ-discrete}
 use native.Mathlib.Omega.{arith}
 use lib.Dec.{eqb}
 use borrow.Author.Tests.{eq-eqb, eqb-true}
+use Rattle.semantics.specs.Distinct.{distinct}
 use Rattle.semantics.specs.Order.{Cost, cost}
 use Rattle.semantics.specs.Graph.Path.{Graph, Entry, unreached, reached}
 use Rattle.semantics.specs.Regions.Compare.{and-true-iff}
@@ -102,12 +103,12 @@ module _ (s : System) (d : ℕ → Entry) (x : s .State) (c : Cost) (l : ℕ) wh
           (z : s .State) (b : Bool) → completes s d z c ≡ b → (elim b [ true ↦ some z | false ↦ none ]) ≡ some y
           → (z ≡ y) × Completes s d z c
       test z true q e = (cc, completes-true s d z c q)
-      test z false q e = let w : _≡_ {A = ℕ} 0 1 = cc in absurd (omega arith)
+      test z false q e = distinct cc
 
       go :
           (o : Option (s .State)) → s .step l x ≡ o → (elim o [ none ↦ none | some z ↦ kept s d c z ]) ≡ some y
           → (s .step l x ≡ some y) × Completes s d y c
-      go none f e = let w : _≡_ {A = ℕ} 0 1 = cc in absurd (omega arith)
+      go none f e = distinct cc
       go (some z) f e = let p = test z (completes s d z c) refl e in (rw (p .0) at f, rw (p .0) at (p .1))
 
   step-tried : (y : s .State) → s .step l x ≡ some y → Completes s d y c → tried s d x c l ≡ some y
@@ -135,7 +136,7 @@ module _ {g : Graph} {s : System} {Valid : s .State → Type 0} {d : ℕ → Ent
       record { step = t .0; completes = t .1; least = λ m z h e u. both m z (f .earlier m h) (step-tried s d x c m z e u) }
     where
       both : (m : ℕ) (z : s .State) → tried s d x c m ≡ none → tried s d x c m ≡ some z → ⊥
-      both m z p q = let w : _≡_ {A = ℕ} 0 1 = cc in omega arith
+      both m z p q = distinct cc
 
   -- The labels after a choice.
   abbrev after : ℕ → ℕ → Option (ℕ × s .State) → List ℕ

@@ -9,6 +9,7 @@ use native.Mathlib.Nat.{zero-add, mul-le-mul-right}
 use native.Mathlib.Omega.{arith}
 use lib.Dec.{leb}
 use borrow.Author.Tests.{le-leb, lt-leb}
+use Rattle.semantics.specs.Distinct.{distinct}
 use Rattle.semantics.specs.Order.{Cost, cost, _≼_, _≺_}
 use Rattle.semantics.specs.Graph.Path.{infinity, Edge, Graph, Target, Closed, WeightsWithin, IsPath, costOf, HasCost, Least, Entry, unreached, reached, Within, along, table}
 use Rattle.semantics.specs.Graph.Distance.{distance, entryWords}
@@ -36,7 +37,7 @@ pub record TargetWithin (g : Graph) (d : ℕ → Entry) (c : Cost) : Type 0 wher
 
 -- No entry is both unreached and reached.
 not-reached : (x : Entry) (c : Cost) → x ≡ unreached → x ≡ reached c → ⊥
-not-reached x c p q = let z : _≡_ {A = ℕ} 0 1 = cc in omega arith
+not-reached x c p q = distinct cc
 
 -- What is more than the other entry is left out.
 near-more : (b c : Cost) → b ≺ c → near (reached b) (reached c) ≡ unreached

@@ -27,9 +27,11 @@ high-byte cs (suc (suc (suc n))) h = absurd (omega arith)
 -- A row that was written.
 row-made : (cs : List Condition) (row : ℕ) (bytes rs rs′ : List ℕ) → bytes ≡ rowOf cs → Wrote (λ i. getD bytes i 0) (6 * row) 6 rs rs′ → IsRow rs′ row cs
 row-made cs row bytes rs rs′ e w = record {
-  low = λ x h. w .there (2 * x) (omega arith) ∙ ap (λ (l : List ℕ). getD l (2 * x) 0) e ∙ low-byte cs x h;
+  low = λ x h.
+      let place : 2 * (3 * row + x) ≡ 6 * row + 2 * x = omega arith in
+      ap (λ (j : ℕ). getD rs′ j 0) place ∙ w .there (2 * x) (omega arith) ∙ ap (λ (l : List ℕ). getD l (2 * x) 0) e ∙ low-byte cs x h;
   high = λ x h.
-      let next : 6 * row + 2 * x + 1 ≡ 6 * row + (2 * x + 1) = omega arith in
+      let next : 2 * (3 * row + x) + 1 ≡ 6 * row + (2 * x + 1) = omega arith in
       ap (λ (j : ℕ). getD rs′ j 0) next ∙ w .there (2 * x + 1) (omega arith) ∙ ap (λ (l : List ℕ). getD l (2 * x + 1) 0) e ∙ high-byte cs x h;
 }
 
@@ -38,8 +40,8 @@ pub row-kept :
     (cs : List Condition) (row : ℕ) (rs rs′ : List ℕ) → ((j : ℕ) → 6 * row ≤ j → j < 6 * row + 6 → getD rs′ j 0 ≡ getD rs j 0) → IsRow rs row cs
     → IsRow rs′ row cs
 row-kept cs row rs rs′ same is = record {
-  low = λ x h. same (6 * row + 2 * x) (omega arith) (omega arith) ∙ is .low x h;
-  high = λ x h. same (6 * row + 2 * x + 1) (omega arith) (omega arith) ∙ is .high x h;
+  low = λ x h. same (2 * (3 * row + x)) (omega arith) (omega arith) ∙ is .low x h;
+  high = λ x h. same (2 * (3 * row + x) + 1) (omega arith) (omega arith) ∙ is .high x h;
 }
 
 module _ (t : List ℕ) (at stride row : ℕ) (rs : List ℕ) where

@@ -4,21 +4,22 @@ use mathlib.Core.Path.{_≡_, sym, _∙_}
 use mathlib.Core.Bool.{Bool, true, false, _&&_, true≢false}
 use mathlib.Core.Logic.{_↔_}
 use mathlib.Core.List.{List}
-use Prim.Native.Nat.{ℕ, _+_, _≤_, _<_}
+use Prim.Native.Nat.{ℕ, _+_, _*_, _≤_, _<_}
 use native.Mathlib.Decide.{ℕ-discrete}
 use native.Mathlib.Omega.{arith}
 use borrow.Author.Tests.{le-leb, lt-leb}
 use lib.Dec.{leb, ltb}
 use lib.ListN.{getD}
-use Rattle.rules.specs.Rules.{lowAt, highAt, InRow}
+use Rattle.rules.specs.Rules.{windowOf, lowAt, highAt, InRow}
 use Rattle.rules.specs.Laws.Windows.{in-window}
 
--- A place below the window, and one that is not.
-pub below : (low h high : ℕ) → h < low → false ≡ (leb low h && ltb h high)
-below low h high p = rw (lt-leb low h p)
+-- A place below the window with a number, and one that is not.
+module _ (rs : List ℕ) (row x at h : ℕ) (is : at ≡ windowOf row x) where
+  pub below : h < getD rs (2 * at) 0 → false ≡ (leb (lowAt rs row x) h && ltb h (highAt rs row x))
+  below p = rw (lt-leb (lowAt rs row x) h (rw is at p))
 
-pub not-below : (low h high : ℕ) → low ≤ h → ltb h high ≡ (leb low h && ltb h high)
-not-below low h high p = rw (le-leb low h p)
+  pub not-below : getD rs (2 * at) 0 ≤ h → ltb h (getD rs (2 * at + 1) 0) ≡ (leb (lowAt rs row x) h && ltb h (highAt rs row x))
+  not-below p = rw (is, le-leb (lowAt rs row x) h (rw is at p))
 
 -- The timers before i are in the windows of a row.
 abbrev pub InUpTo : List ℕ → ℕ → List ℕ → ℕ → Type 0

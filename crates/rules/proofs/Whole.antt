@@ -58,10 +58,10 @@ module _ (t : List ℕ) (table : IsTable t) where
         let caps-own = caps .there m (omega arith) in
         record {
           low = λ x h.
-              row-byte (6 * m + 2 * x) (omega arith) ∙ caps-own .low x h ∙ joins .before (6 * m + 2 * x) (omega arith) ∙ own .low x h;
+              row-byte (2 * (3 * m + x)) (omega arith) ∙ caps-own .low x h ∙ joins .before (2 * (3 * m + x)) (omega arith) ∙ own .low x h;
           high = λ x h.
-              row-byte (6 * m + 2 * x + 1) (omega arith) ∙ caps-own .high x h
-              ∙ ap (λ (high : ℕ). capped high (getD (automatonOf t .ceilings) x 0)) (joins .before (6 * m + 2 * x + 1) (omega arith) ∙ own .high x h);
+              row-byte (2 * (3 * m + x) + 1) (omega arith) ∙ caps-own .high x h
+              ∙ ap (λ (high : ℕ). capped high (getD (automatonOf t .ceilings) x 0)) (joins .before (2 * (3 * m + x) + 1) (omega arith) ∙ own .high x h);
         }
 
     move-full : (e : ℕ) → e < length (automatonOf t .moves) → IsRow full (16 + e) (moveAt (automatonOf t) e .conditions)
@@ -76,9 +76,9 @@ module _ (t : List ℕ) (table : IsTable t) where
         let target : IsRow full (moveAt (automatonOf t) e .target) (targetConditions (automatonOf t) e) = mode-full _ (target-below t table e l) in
         record {
           low = λ x h.
-              move-byte (6 * (16 + e) + 2 * x) (omega arith) (omega (arith, moves-few t table)) ∙ joins .there e l .low x h ∙ rw (own .low x h, target .low x h);
+              move-byte (2 * (3 * (16 + e) + x)) (omega arith) (omega (arith, moves-few t table)) ∙ joins .there e l .low x h ∙ rw (own .low x h, target .low x h);
           high = λ x h.
-              move-byte (6 * (16 + e) + 2 * x + 1) (omega arith) (omega (arith, moves-few t table)) ∙ joins .there e l .high x h
+              move-byte (2 * (3 * (16 + e) + x) + 1) (omega arith) (omega (arith, moves-few t table)) ∙ joins .there e l .high x h
               ∙ rw (own .high x h, target .low x h, target .high x h);
         }
 

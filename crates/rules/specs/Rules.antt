@@ -12,13 +12,16 @@ use Rattle.semantics.specs.Run.{among}
 use Rattle.table.specs.Held.{automatonOf}
 use Rattle.conditions.specs.Windows.{lowOf, highOf, joinedLow, joinedHigh, capped}
 
--- Rows of six bytes, the modes' from row 0 on and the moves' from row 16 on. Of timer x the lowest place in its window stands at 2x, and the first
--- above it that is outside at 2x + 1.
+-- Rows of three windows, the modes' from row 0 on and the moves' from row 16 on. A window has two bytes: the lowest place in it, and the first above
+-- that is outside.
+abbrev pub windowOf : ℕ → ℕ → ℕ
+windowOf row x = 3 * row + x
+
 abbrev pub lowAt : List ℕ → ℕ → ℕ → ℕ
-lowAt rs row x = getD rs (6 * row + 2 * x) 0
+lowAt rs row x = getD rs (2 * windowOf row x) 0
 
 abbrev pub highAt : List ℕ → ℕ → ℕ → ℕ
-highAt rs row x = getD rs (6 * row + 2 * x + 1) 0
+highAt rs row x = getD rs (2 * windowOf row x + 1) 0
 
 -- Timers that stand at these places are in the windows of a row.
 abbrev pub InRow : List ℕ → ℕ → List ℕ → Type 0

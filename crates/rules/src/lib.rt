@@ -7,8 +7,8 @@ ghost use Prim.Native.Nat.{_<_};
 ghost use lib.Dec.{leb, ltb};
 ghost use lib.ListN.{length};
 ghost use Rattle.table.specs.Held.{IsTable};
-ghost use Rattle.rules.specs.Rules.{lowAt, highAt, InRow, firstOf, afterOf, IsRules};
-use conditions::windows::ROW;
+ghost use Rattle.rules.specs.Rules.{windowOf, lowAt, highAt, InRow, firstOf, afterOf, IsRules};
+use table::MOST_TIMERS;
 use table::TABLE;
 
 mod order;
@@ -80,7 +80,7 @@ pub fn inside(rules: &[u8; RULES], row: usize, timer: usize, half: u8) -> bool
     requires { ⌜ (length (now rules) ≡ 560) × (row < 80) × (timer < 3) ⌝ }
     ensures { λ r. ⌜ r ≡ (leb (lowAt (now (rules .entry)) row timer) half && ltb half (highAt (now (rules .entry)) row timer)) ⌝ }
 {
-    let at = ROW * row + 2 * timer;
+    let at = 2 * window(row, timer);
     if half < rules[at] {
         return false;
     }
@@ -98,6 +98,14 @@ pub fn all_inside(rules: &[u8; RULES], row: usize, halves: [u8; 3]) -> bool
         }
     }
     true
+}
+
+// The number of a timer's window, three to a row; a window has two bytes. The unit's core multiplies in 32 bits.
+fn window(row: usize, timer: usize) -> usize
+    requires { ⌜ (row < 80) × (timer < 3) ⌝ }
+    ensures { λ r. ⌜ r ≡ windowOf row timer ⌝ }
+{
+    (MOST_TIMERS as u32 * row as u32) as usize + timer
 }
 
 // A byte as a number. Of a parameter it is known that it is below 256, of a byte in an array behind a reference it is not.

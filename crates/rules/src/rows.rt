@@ -6,6 +6,7 @@ ghost use Rattle.table.specs.Held.{automatonOf, IsTable};
 ghost use Rattle.rules.specs.Making.{conditionBytes, FilledRows, JoinedRow, JoinedRows, CappedRow, CappedRows, Wrote};
 use crate::GUARDS;
 use crate::RULES;
+use crate::window;
 use conditions::windows::ROW;
 use conditions::windows::capped;
 use conditions::windows::joined_high;
@@ -61,8 +62,8 @@ fn join_row(rules: &mut [u8; RULES], row: usize, target: usize, resets: u8)
 {
     for timer in 0..MOST_TIMERS {
         let reset = (resets >> timer) % 2 == 1;
-        let at = ROW * row + 2 * timer;
-        let from = ROW * target + 2 * timer;
+        let at = 2 * window(row, timer);
+        let from = 2 * window(target, timer);
         let low = joined_low(reset, rules[at], rules[from]);
         let high = joined_high(reset, rules[at + 1], rules[from], rules[from + 1]);
         rules[at] = low;
@@ -87,7 +88,7 @@ fn cap_row(rules: &mut [u8; RULES], row: usize, ceilings: [u8; MOST_TIMERS])
     ensures { λ _. ⌜ CappedRow ceilings row 3 (now (rules .entry)) (now (rules .exit)) ⌝ }
 {
     for timer in 0..MOST_TIMERS {
-        let at = ROW * row + 2 * timer + 1;
+        let at = 2 * window(row, timer) + 1;
         rules[at] = capped(rules[at], ceilings[timer]);
     }
 }
@@ -109,7 +110,8 @@ fn put(rules: &mut [u8; RULES], row: usize, bytes: [u8; ROW])
     requires { ⌜ (length (now rules) ≡ 560) × (row < 80) ⌝ }
     ensures { λ _. ⌜ Wrote (λ i. getD bytes i 0) (6 * row) 6 (now (rules .entry)) (now (rules .exit)) ⌝ }
 {
+    let at = 2 * window(row, 0);
     for i in 0..ROW {
-        rules[ROW * row + i] = bytes[i];
+        rules[at + i] = bytes[i];
     }
 }

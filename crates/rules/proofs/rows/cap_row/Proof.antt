@@ -17,17 +17,14 @@ abbrev μ-loop : tie.MeasureT-loop
 loop-holds : tie.Need-loop-holds Inv-loop μ-loop
 loop-holds c = (omega arith, cap-none _ _ _)
 
+window-requires : tie.Need-window-requires Inv-loop μ-loop
+window-requires c κs = omega arith
+
 mul-at : tie.Need-mul-at Inv-loop μ-loop
 mul-at c = omega arith
 
-mul-at-2 : tie.Need-mul-at-2 Inv-loop μ-loop
-mul-at-2 c = omega arith
-
 add-at : tie.Need-add-at Inv-loop μ-loop
 add-at c = omega arith
-
-add-at-2 : tie.Need-add-at-2 Inv-loop μ-loop
-add-at-2 c = omega arith
 
 element-copy-out-capped : tie.Need-element-copy-out-capped Inv-loop μ-loop
 element-copy-out-capped c = omega arith
@@ -36,7 +33,7 @@ array-read-capped : tie.Need-array-read-capped Inv-loop μ-loop
 array-read-capped c = omega arith
 
 capped-requires : tie.Need-capped-requires Inv-loop μ-loop
-capped-requires c κs = let turn = c .before .before in turn .before .pre .2 (turn .loop .timer)
+capped-requires c κs = let turn = c .before .before .before in turn .before .pre .2 (turn .loop .timer)
 
 element-write-rules : tie.Need-element-write-rules Inv-loop μ-loop
 element-write-rules c = omega arith
@@ -49,10 +46,12 @@ loop-less c = omega arith
 
 loop-again : tie.Need-loop-again Inv-loop μ-loop
 loop-again c =
-    let turn = c .before .before .before in
+    let at = c .before .before in
+    let turn = at .before .before in
     let a = turn .before .args in (
       omega arith,
-      cap-more (a .t3) (a .row) _ (omega arith) (turn .loop .timer) (omega arith) (turn .loop .rules) (turn .loop .inv .1) _ (c .capped .ensures),
+      cap-more (a .t3) (a .row) _ (omega arith) (turn .loop .timer) (omega arith) (turn .loop .rules) (turn .loop .inv .1) _ (at .window .result)
+          (at .window .ensures) (c .capped .ensures),
     )
 
 returns : tie.Need-returns Inv-loop μ-loop
@@ -67,10 +66,9 @@ cap-row-spec =
     Inv-loop
     μ-loop
     loop-holds
+    window-requires
     mul-at
-    mul-at-2
     add-at
-    add-at-2
     element-copy-out-capped
     array-read-capped
     capped-requires

@@ -23,23 +23,17 @@ cast-reset c = search needs
 shr-reset : tie.Need-shr-reset Inv-loop μ-loop
 shr-reset c = search needs
 
+window-requires : tie.Need-window-requires Inv-loop μ-loop
+window-requires c κs = search needs
+
 mul-at : tie.Need-mul-at Inv-loop μ-loop
 mul-at c = omega arith
 
-mul-at-2 : tie.Need-mul-at-2 Inv-loop μ-loop
-mul-at-2 c = omega arith
-
-add-at : tie.Need-add-at Inv-loop μ-loop
-add-at c = omega arith
+window-requires-2 : tie.Need-window-requires-2 Inv-loop μ-loop
+window-requires-2 c κs = search needs
 
 mul-from : tie.Need-mul-from Inv-loop μ-loop
 mul-from c = omega arith
-
-mul-from-2 : tie.Need-mul-from-2 Inv-loop μ-loop
-mul-from-2 c = omega arith
-
-add-from : tie.Need-add-from Inv-loop μ-loop
-add-from c = omega arith
 
 element-copy-out-joined-low : tie.Need-element-copy-out-joined-low Inv-loop μ-loop
 element-copy-out-joined-low c = omega arith
@@ -86,11 +80,14 @@ loop-less c = omega arith
 loop-again : tie.Need-loop-again Inv-loop μ-loop
 loop-again c =
     let lowered = c .before .before .before .before in
-    let turn = lowered .before .before .before .before in
+    let from = lowered .before .before .before in
+    let at = from .before in
+    let turn = at .before .before in
     let a = turn .before .args in (
       omega arith,
       row-more (a .resets) (a .row) (a .target) _ (omega arith) (omega arith) (turn .loop .timer) (omega arith) (turn .loop .rules) (turn .loop .inv .1) _ _
-          (lowered .joined-low .ensures) (c .joined-high .ensures),
+          (at .window .result) (from .window2 .result) (at .window .ensures) (from .window2 .ensures) (lowered .joined-low .ensures)
+          (c .joined-high .ensures),
     )
 
 returns : tie.Need-returns Inv-loop μ-loop
@@ -107,12 +104,10 @@ join-row-spec =
     loop-holds
     cast-reset
     shr-reset
+    window-requires
     mul-at
-    mul-at-2
-    add-at
+    window-requires-2
     mul-from
-    mul-from-2
-    add-from
     element-copy-out-joined-low
     element-copy-out-joined-low-2
     joined-low-requires

@@ -1,6 +1,7 @@
 -- `rules::rows::put` meets its contract. The loop's invariant: the first i bytes are written. Assumes nothing.
 use Prim.Native.Nat.{_*_, _-_, _≤_}
 use mathlib.Core.Path.{_≡_, refl}
+use borrow.Author.Needs.{needs}
 use native.Mathlib.Omega.{arith}
 use lib.ListN.{getD}
 use Rattle.rules.specs.Making.{Wrote}
@@ -9,19 +10,22 @@ use Rattle.rules.proofs.rows.put.Statement.{statement}
 use Rattle.rules.proofs.rows.put.Tie as tie
 
 abbrev Inv-loop : tie.InvT-loop
-Inv-loop rules₀ row bytes i₀ rules i = (i ≤ 6) × Wrote (λ k. getD bytes k 0) (6 * row) i rules₀ rules
+Inv-loop rules₀ row bytes at i₀ rules i = (at ≡ 6 * row) × (i ≤ 6) × Wrote (λ k. getD bytes k 0) at i rules₀ rules
 
 abbrev μ-loop : tie.MeasureT-loop
-μ-loop rules₀ row bytes i₀ rules i = 6 - i
+μ-loop rules₀ row bytes at i₀ rules i = 6 - i
+
+window-requires : tie.Need-window-requires Inv-loop μ-loop
+window-requires c κs = search needs
+
+mul-at : tie.Need-mul-at Inv-loop μ-loop
+mul-at c = omega arith
 
 loop-holds : tie.Need-loop-holds Inv-loop μ-loop
-loop-holds c = (omega arith, wrote-none _ _ _)
+loop-holds c = (omega arith, omega arith, wrote-none _ _ _)
 
 array-read-rules : tie.Need-array-read-rules Inv-loop μ-loop
 array-read-rules c = omega arith
-
-mul-rules : tie.Need-mul-rules Inv-loop μ-loop
-mul-rules c = omega arith
 
 add-rules : tie.Need-add-rules Inv-loop μ-loop
 add-rules c = omega arith
@@ -38,13 +42,14 @@ loop-less c = omega arith
 loop-again : tie.Need-loop-again Inv-loop μ-loop
 loop-again c =
     let turn = c .before in
-    let a = turn .before .args in
-    (omega arith, wrote-more _ (6 * a .row) (turn .loop .i) _ (turn .loop .rules) _ (omega arith) refl (turn .loop .inv .1))
+    let held = turn .loop .inv in
+    (held .0, omega arith, wrote-more _ _ (turn .loop .i) _ (turn .loop .rules) _ (omega arith) refl (held .2))
 
 returns : tie.Need-returns Inv-loop μ-loop
 returns c =
     let all : c .before .loop .i ≡ 6 = omega arith in
-    rw all at (c .before .loop .inv .1)
+    let held = c .before .loop .inv in
+    rw (held .0, all) at (held .2)
 
 pub put-spec : {M : Type 1} → statement M
 put-spec =
@@ -52,9 +57,10 @@ put-spec =
     (tie.spec
     Inv-loop
     μ-loop
+    window-requires
+    mul-at
     loop-holds
     array-read-rules
-    mul-rules
     add-rules
     element-write-rules
     add-i

@@ -1,4 +1,4 @@
-/* Plans a sample table (T of document 01) with just the memory that it needs, and prints the answer as the program `plan` does. */
+/* Asks how much to lend for a sample table (T of document 01), plans it with just that, and prints the answer as the program `plan` does. */
 #include "planner.h"
 #include <stdio.h>
 
@@ -11,14 +11,25 @@ static const uint8_t table[] = {
 };
 
 static uint32_t words[54];
-static uint8_t route[5];
+static uint8_t route[26];
 
 int main(void)
 {
     uint32_t charge = 0;
-    size_t steps = 0;
-    uint8_t answer = planner_plan(table, sizeof table, words, 54, route, sizeof route, &charge, &steps);
+    size_t steps = 0, words_needed = 0, route_needed = 0;
+    uint8_t answer = planner_lend(table, sizeof table, &words_needed, &route_needed);
 
+    if (answer != PLANNER_OK) {
+        printf("refused %u\n", (unsigned)answer);
+        return 0;
+    }
+    printf("lend %lu words and %lu route bytes\n", (unsigned long)words_needed, (unsigned long)route_needed);
+    if (words_needed > sizeof words / sizeof *words || route_needed > sizeof route) {
+        puts("there is not as much");
+        return 0;
+    }
+
+    answer = planner_plan(table, sizeof table, words, words_needed, route, route_needed, &charge, &steps);
     if (answer == PLANNER_NO_ROUTE) {
         puts("no route");
     } else if (answer != PLANNER_ROUTE) {

@@ -1,7 +1,7 @@
 /*
  * The calls of planner.h where size_t has 32 bits. In the proved code every length has 64: wide.h, written from the
  * bitcode, declares the calls as they are there. A length that is passed is widened by C's rules. One that is given back
- * comes through a variable of 64 bits, and fits: it is no more than a length that was passed.
+ * comes through a variable of 64 bits, and fits: it is no more than a length that was passed, or 131,072.
  */
 #include "planner.h"
 #include "wide.h"
@@ -19,6 +19,19 @@ uint8_t planner_plan(const uint8_t *table, size_t table_len,
 
     if (answer == PLANNER_ROUTE) {
         *steps = (size_t)wide_steps;
+    }
+    return answer;
+}
+
+uint8_t planner_lend(const uint8_t *table, size_t table_len,
+                     size_t *words_needed, size_t *route_needed)
+{
+    uint64_t wide_words = 0, wide_route = 0;
+    uint8_t answer = wide_planner_lend(table, table_len, &wide_words, &wide_route);
+
+    if (answer == PLANNER_OK) {
+        *words_needed = (size_t)wide_words;
+        *route_needed = (size_t)wide_route;
     }
     return answer;
 }

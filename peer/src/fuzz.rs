@@ -2,6 +2,7 @@
 
 use crate::dijkstra::{self, Answer};
 use crate::generate::{case, Case, Kind};
+use crate::lend::{self, Needs};
 use crate::paper::{self, Outcome};
 use crate::random::Random;
 use crate::table::{self, node_count, Table};
@@ -40,6 +41,8 @@ struct Tally {
     /// Routes, by the number of bits that their number of steps has.
     routes: BTreeMap<u32, u64>,
     with_linger: u64,
+    /// Tables that were planned with just what the call says that is to be lent.
+    as_much_as_said: u64,
     searched: u64,
     gave_up: u64,
     held_to_runs: u64,
@@ -68,6 +71,7 @@ impl Tally {
             println!("  of {} to {} steps: {count}", 1 << bits >> 1, (1 << bits) - 1);
         }
         println!("  with a linger: {}", self.with_linger);
+        println!("lent as much as lend says: {}", self.as_much_as_said);
         let held = self.searched - self.gave_up;
         println!("held to the paper's algorithm: {held} (it gave up on {} more)", self.gave_up);
         println!("held to runs: {}", self.held_to_runs);
@@ -80,8 +84,12 @@ fn check(case: &Case, tally: &mut Tally) -> Result<(), String> {
     let nodes = table.as_ref().map(node_count);
     let unlimited = dijkstra::plan(&case.table, usize::MAX, usize::MAX);
     let mut random = case.random.clone();
-    let words = words_lent(&mut random, nodes);
-    let route_bytes = route_bytes_lent(&mut random, &unlimited);
+    let needs = needs(&case.table, lend::of(&unlimited, nodes), &mut random)?;
+    let as_said = random.one_in(4);
+    let (words, route_bytes) = match needs {
+        Needs::Memory { words, route_bytes } if as_said => (words, route_bytes),
+        _ => (words_lent(&mut random, nodes), route_bytes_lent(&mut random, &unlimited)),
+    };
     let with_lent = |text| format!("{words} words and {route_bytes} route bytes lent\n{text}");
     let before = Memory::new(&case.table, words, route_bytes, &mut random);
     let answer = dijkstra::plan(&case.table, words, route_bytes);
@@ -89,6 +97,10 @@ fn check(case: &Case, tally: &mut Tally) -> Result<(), String> {
     if must != got {
         return Err(with_lent(format!("independent: {answer:?}\n{}", must.unlike(&got))));
     }
+    if as_said && matches!(answer, Answer::Refused(9 | 10)) {
+        return Err(with_lent(format!("as much as was said: {answer:?}")));
+    }
+    tally.as_much_as_said += u64::from(as_said && matches!(needs, Needs::Memory { .. }));
     tally.count(case.kind, &answer);
     match table {
         Some(table) if searches(&answer) => {
@@ -96,6 +108,15 @@ fn check(case: &Case, tally: &mut Tally) -> Result<(), String> {
         }
         _ => Ok(()),
     }
+}
+
+/// How much to lend, by the proved call, if that is what it must be.
+fn needs(table: &[u8], must: Needs, random: &mut Random) -> Result<Needs, String> {
+    let got = lend::proved(table, random)?;
+    if got != must {
+        return Err(format!("to lend: must be {must:?}, is {got:?}"));
+    }
+    Ok(got)
 }
 
 /// Holds the answer to the paper's algorithm and, if the table is small, to runs.

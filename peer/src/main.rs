@@ -8,6 +8,8 @@ mod draft;
 mod fuzz;
 mod generate;
 mod grid;
+mod json;
+mod lend;
 mod measure;
 mod paper;
 mod proved;
@@ -15,12 +17,14 @@ mod random;
 mod runs;
 mod shape;
 mod table;
+mod vectors;
 mod worst;
 
 use std::process::ExitCode;
 
 const USAGE: &str = "usage:
   peer fuzz SEED COUNT   compare the planners on COUNT tables drawn from SEED
+  peer vectors FILE..    run the calls of the files, and compare their answers with those that they tell
   peer bench             measure the planners on the tables of the folder tables
   peer worst SEED SECONDS [TIMERS]
                          breed tables that are costly for the proved planner, for so many seconds of
@@ -36,6 +40,7 @@ fn main() -> ExitCode {
                 return fuzz::run(seed, count);
             }
         }
+        ["vectors", ref files @ ..] if !files.is_empty() => return vectors::run(files),
         ["bench"] => return bench::run(),
         ["worst", seed, seconds, ref timers @ ..] if cfg!(feature = "counted") => {
             if let (Ok(seed), Ok(seconds), Some(timers)) =

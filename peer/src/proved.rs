@@ -1,8 +1,10 @@
 //! The proved planner, called through its C interface.
 
-/// What the call returns for a route. Refusals return their number, 1 to 10.
+/// What the calls return for a route, and for what else was asked for. Refusals return their number,
+/// 1 to 10.
 pub const ROUTE: u8 = 0;
-/// What the call returns if no chain comes into the goal.
+pub const OK: u8 = 0;
+/// What planning returns if no chain comes into the goal.
 pub const NO_ROUTE: u8 = 255;
 
 extern "C" {
@@ -15,6 +17,13 @@ extern "C" {
         route_len: usize,
         charge: *mut u32,
         steps: *mut usize,
+    ) -> u8;
+
+    fn planner_lend(
+        table: *const u8,
+        table_len: usize,
+        words_needed: *mut usize,
+        route_needed: *mut usize,
     ) -> u8;
 }
 
@@ -43,4 +52,11 @@ pub fn plan(
             steps,
         )
     }
+}
+
+/// Says how much to lend for planning the table. The two numbers are written if the answer is `OK`,
+/// and only then.
+pub fn lend(table: &[u8], words_needed: &mut usize, route_needed: &mut usize) -> u8 {
+    // Sound: as above.
+    unsafe { planner_lend(table.as_ptr(), table.len(), words_needed, route_needed) }
 }

@@ -1,7 +1,7 @@
 /*
  * Plans every table on standard input (16 bits of length, the lower byte first, then the bytes) with what the unit lends,
- * and prints what `plan` prints. Around every call it checks each rule of planner.h on the memory. At the end standard
- * error has the most stack that a call used.
+ * and prints what `plan` prints. Before that it asks how much to lend, and holds the two to each other. Around every call
+ * it checks each rule of planner.h on the memory. At the end standard error has the most stack that a call used.
  */
 #include "planner.h"
 #include <stdlib.h>
@@ -15,7 +15,7 @@ static uint32_t words[GUARD + WORDS + GUARD];
 static uint8_t route[GUARD + ROUTE + GUARD];
 static uint8_t table[GUARD + LONGEST + GUARD];
 static uint32_t charge[3];
-static size_t steps[3];
+static size_t steps[3], words_needed[3], route_needed[3];
 
 static size_t most_stack;
 
@@ -57,13 +57,16 @@ static size_t words_of_table(void)
     return 2 * e;
 }
 
-/* Calls with the answer read as the whole register, since a caller may rely on bits 8 to 31 being 0, and with the stack
-   below filled, to see how much is used. */
-static __attribute__((noinline)) uint32_t call(size_t table_len, size_t words_len, size_t route_len)
+enum which { PLAN, LEND };
+
+/* Makes a call with the answer read as the whole register, since a caller may rely on bits 8 to 31 being 0, and with the
+   stack below filled, to see how much is used. */
+static __attribute__((noinline)) uint32_t call(enum which which, size_t table_len, size_t words_len, size_t route_len)
 {
-    typedef uint32_t whole_register(const uint8_t *, size_t, uint32_t *, size_t,
-                                    uint8_t *, size_t, uint32_t *, size_t *);
-    whole_register *volatile plan = (whole_register *)(void (*)(void))planner_plan;
+    typedef uint32_t plan_register(const uint8_t *, size_t, uint32_t *, size_t, uint8_t *, size_t, uint32_t *, size_t *);
+    typedef uint32_t lend_register(const uint8_t *, size_t, size_t *, size_t *);
+    plan_register *volatile plan = (plan_register *)(void (*)(void))planner_plan;
+    lend_register *volatile lend = (lend_register *)(void (*)(void))planner_lend;
     const uint32_t unused = 0xA5A5A5A5u;
     volatile uint32_t *const limit = sbrk(0), *sp, *p; /* below the limit newlib keeps what its input and output need */
     uint32_t answer;
@@ -72,8 +75,12 @@ static __attribute__((noinline)) uint32_t call(size_t table_len, size_t words_le
     for (p = limit; p < sp; p++) {
         *p = unused;
     }
-    answer = plan(table + GUARD, table_len, words + GUARD, words_len,
-                  route + GUARD, route_len, charge + 1, steps + 1);
+    if (which == PLAN) {
+        answer = plan(table + GUARD, table_len, words + GUARD, words_len,
+                      route + GUARD, route_len, charge + 1, steps + 1);
+    } else {
+        answer = lend(table + GUARD, table_len, words_needed + 1, route_needed + 1);
+    }
     for (p = limit; p < sp && *p == unused; p++) {
     }
     require(p > limit, "stack: all of it was used");
@@ -99,7 +106,36 @@ static void spoil(uint32_t *answer)
     case 11: *answer |= 256; break;
     case 12: *(volatile uint32_t *)__ram_end = 0; break;
     case 13: *(volatile uint32_t *)__flash_end; break;
+    case 14: words_needed[1]++; break;
+    case 15: route_needed[1]--; break;
+    case 16: words_needed[2]++; break;
+    case 17: route_needed[0]++; break;
     }
+}
+
+/* How much to lend; and that it is 2E and E - 1 if the table is accepted. */
+static uint8_t lend(size_t table_len)
+{
+    size_t i, need = word_before(1), room = word_before(1);
+    uint32_t answer, sum = checksum(table, sizeof table);
+
+    for (i = 0; i < 3; i++) {
+        words_needed[i] = route_needed[i] = word_before(i);
+    }
+    answer = call(LEND, table_len, 0, 0);
+    spoil(&answer);
+
+    require(answer <= PLANNER_TOO_MANY_NODES, "lend: an answer that is none of those that there are");
+    require(checksum(table, sizeof table) == sum, "lend: the table is altered");
+    if (answer == PLANNER_OK) {
+        need = words_of_table();
+        room = need / 2 - 1;
+    }
+    for (i = 0; i < 3; i++) {
+        require(words_needed[i] == (i == 1 ? need : word_before(i)), "lend: other words than 2E, or touched");
+        require(route_needed[i] == (i == 1 ? room : word_before(i)), "lend: other route bytes than E - 1, or touched");
+    }
+    return (uint8_t)answer;
 }
 
 static uint8_t plan(size_t table_len, size_t words_len, size_t route_len)
@@ -116,7 +152,7 @@ static uint8_t plan(size_t table_len, size_t words_len, size_t route_len)
     for (i = 0; i < 3; i++) {
         charge[i] = steps[i] = word_before(i);
     }
-    answer = call(table_len, words_len, route_len);
+    answer = call(PLAN, table_len, words_len, route_len);
     spoil(&answer);
 
     require(answer <= 10 || answer == PLANNER_NO_ROUTE, "answer: none of those that there are");
@@ -188,6 +224,18 @@ static void tell(uint8_t answer)
     flush(STDOUT_FILENO);
 }
 
+/* The unit's memory is refused for the reason that `lend` gives, or if it is less than `lend` says. */
+static void hold_to_each_other(uint8_t lent, uint8_t planned)
+{
+    if (lent != PLANNER_OK) {
+        require(planned == lent, "lend: another refusal than that of planning");
+    } else {
+        require(planned > PLANNER_TOO_MANY_NODES || planned == PLANNER_ROUTE, "lend: a refusal of planning is not told");
+        require((planned == PLANNER_TOO_FEW_WORDS) == (words_needed[1] > WORDS), "lend: words that are not those needed");
+        require(planned != PLANNER_ROUTE_TOO_LONG || route_needed[1] > ROUTE, "lend: too few route bytes");
+    }
+}
+
 /* A table with a route: just enough memory is enough, and a word or a byte less is not. */
 static void plan_at_the_limits(size_t table_len)
 {
@@ -214,14 +262,16 @@ static int get(uint8_t *to, size_t n)
 
 int main(void)
 {
-    uint8_t length[2], answer;
+    uint8_t length[2], lent, answer;
 
     while (get(length, 2)) {
         size_t n = length[0] + 256u * length[1];
         require(n <= LONGEST, "input: a byte more than any table has is the most");
         memset(table, 0xEE, sizeof table);
         require(get(table + GUARD, n), "input: a table is cut off");
+        lent = lend(n);
         answer = plan(n, WORDS, ROUTE);
+        hold_to_each_other(lent, answer);
         tell(answer);
         if (answer == PLANNER_ROUTE) {
             plan_at_the_limits(n);

@@ -1,6 +1,7 @@
 // Runs the script on standard input, a case to a line, and prints what comes out. The script's first lines say how a case is written.
 mod cells;
 mod chains;
+mod lends;
 mod operations;
 mod places;
 mod plans;
@@ -47,6 +48,8 @@ fn run_line(line: &[u8]) {
 // The names of the calls as tokens, by their last five letters; and what begins a title and a comment.
 const PLAN: usize = 0x70_6c61_6e00_0000;
 
+const LEND: usize = 0x6c_656e_6400_0000;
+
 const READ: usize = 0x72_6561_6400_0000;
 
 const REGION: usize = 0x6567_696f_6e00_0000;
@@ -66,6 +69,7 @@ const COMMENT: usize = 0x2300_0000;
 fn called(name: usize, line: &[u8], numbers: &[usize; TOKENS], bytes: &[u8]) {
     match name {
         PLAN => plans::plan(numbers, bytes),
+        LEND => lends::lend(bytes),
         REGION => scripts::region(numbers),
         CORNERS => cells::corners(scripts::timers(numbers)),
         READ | SEARCH | CHAIN => of_table(numbers, bytes),

@@ -1,8 +1,8 @@
--- Numbers that stand for an answer of planning keep what holds of it.
+-- Numbers that stand for an answer keep what holds of it.
 -- Assumes nothing.
 use mathlib.Core.Path.{_≡_, refl, sym, ap, subst, _∙_}
 use mathlib.Core.Bool.{Bool, cond}
-use mathlib.Core.List.{List}
+use mathlib.Core.List.{List, []}
 use Prim.Native.Nat.{ℕ, _≤_}
 use native.Mathlib.Omega.{arith}
 use borrow.Author.Tests.{ne-eqb}
@@ -10,10 +10,13 @@ use lib.Dec.{eqb}
 use lib.ListN.{length}
 use Rattle.route.specs.declared.Answer.{Answer}
 use Rattle.route.specs.declared.Answer.the-variants.{Refused, NoRoute, Route}
+use Rattle.route.specs.declared.Needs.{Needs}
+use Rattle.route.specs.declared.Needs.the-variants.{Refused as Needs·Refused, Memory}
 use Rattle.route.specs.Plan.{outcome, planned}
 use Rattle.route.specs.Promise.{KeepsDemand}
 use Rattle.route.specs.Refused.{planned-range}
-use Rattle.planner.specs.Numbers.{decoded, Untouched}
+use Rattle.route.specs.Lend.{needed, Enough}
+use Rattle.planner.specs.Numbers.{decoded, decodedNeeds, Untouched}
 
 decoded-route : (C n : ℕ) → decoded 0 C n ≡ Route C n
 unfolding decoded
@@ -52,3 +55,23 @@ module _ (bytes ws rs ws′ rs′ : List ℕ) (r : Answer) (e : outcome r ws′ 
 
   pub told-route : (C C′ n n′ : ℕ) → r ≡ Route C′ n′ → Told (decoded 0 C′ n′) 0 C C′ n n′
   told-route C C′ n n′ t = told 0 C C′ n n′ (decoded-route C′ n′ ∙ sym t) (λ o. absurd (o refl)) (λ o. absurd (o refl))
+
+-- How much to lend: the bytes, and the answer.
+module _ (bytes : List ℕ) (r : Needs) (e : r ≡ needed bytes) (k : Enough bytes r) where
+  -- What is promised of numbers that stand for the answer s, with the words and route bytes before and after the call.
+  abbrev ToldNeeds : Needs → (number w w′ b b′ : ℕ) → Type 0
+  ToldNeeds s number w w′ b b′ = (s ≡ needed bytes) × (Untouched number w w′ × (Untouched number b b′ × Enough bytes s))
+
+  -- A refusal has another number than 0.
+  pub lend-refused : (m w b : ℕ) → r ≡ Needs·Refused m → ToldNeeds (decodedNeeds m w b) m w w b b
+  unfolding decodedNeeds
+  lend-refused m w b t =
+      let refused = planned-range bytes [] [] m (k .same [] [] m .0 t .0) in
+      let is : decodedNeeds m w b ≡ r =
+      ap (λ (z : Bool). cond z (Memory w b) (Needs·Refused m)) (ne-eqb m 0 (λ z. omega (arith, refused))) ∙ sym t in
+      subst (λ s. ToldNeeds s m w w b b) (sym is) (e, (λ o. refl, (λ o. refl, k)))
+
+  pub lend-memory : (w w′ b b′ : ℕ) → r ≡ Memory w′ b′ → ToldNeeds (decodedNeeds 0 w′ b′) 0 w w′ b b′
+  unfolding decodedNeeds
+  lend-memory w w′ b b′ t =
+      subst (λ s. ToldNeeds s 0 w w′ b b′) t (e, (λ o. absurd (o refl), (λ o. absurd (o refl), k)))

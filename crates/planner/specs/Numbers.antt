@@ -7,11 +7,17 @@ use Prim.Native.Nat.{ℕ}
 use lib.Dec.{eqb}
 use Rattle.route.specs.declared.Answer.{Answer}
 use Rattle.route.specs.declared.Answer.the-variants.{Refused, NoRoute, Route}
+use Rattle.route.specs.declared.Needs.{Needs}
+use Rattle.route.specs.declared.Needs.the-variants.{Refused as Needs·Refused, Memory}
 
 -- The answer that the numbers stand for: 0 is a route with its charge and its number of steps, 255 no route, and any other number the
 -- refusal of that number.
 unfoldable pub decoded : (number charge steps : ℕ) → Answer
 decoded number charge steps = cond (eqb number 0) (Route charge steps) (cond (eqb number 255) NoRoute (Refused number))
+
+-- How much to lend: 0 is memory that is enough, with its words and its route bytes, and any other number the refusal of that number.
+unfoldable pub decodedNeeds : (number words room : ℕ) → Needs
+decodedNeeds number words room = cond (eqb number 0) (Memory words room) (Needs·Refused number)
 
 -- "A refusal returns its number only", and so does no route: what was there stays.
 abbrev pub Untouched : (number before after : ℕ) → Type 0

@@ -1,13 +1,15 @@
-// The planner for C and Rust: `route::plan` with its answer in plain numbers. include/planner.h is the page for its callers.
+// The planner for C and Rust: the calls of `route` with their answers in plain numbers. include/planner.h is the page for their callers.
 ghost use mathlib.Core.Path.{_≡_};
 ghost use lib.ListN.{length};
 ghost use Rattle.route.specs.Plan.{outcome, planned};
 ghost use Rattle.route.specs.Promise.{KeepsDemand};
-ghost use Rattle.planner.specs.Numbers.{decoded, Untouched};
+ghost use Rattle.route.specs.Lend.{needed, Enough};
+ghost use Rattle.planner.specs.Numbers.{decoded, decodedNeeds, Untouched};
 use route::Answer;
+use route::Needs;
 
-// The numbers that stand for a route and for no route. A refusal stands for itself: 1 to 10.
-const ROUTE: u8 = 0;
+// The numbers that stand for what was asked for, a route or memory that is enough, and for no route. A refusal stands for itself: 1 to 10.
+const OK: u8 = 0;
 
 const NO_ROUTE: u8 = 255;
 
@@ -38,7 +40,27 @@ pub extern "C" fn planner_plan(
         Answer::Route(c, n) => {
             *charge = c;
             *steps = n;
-            ROUTE
+            OK
+        }
+    }
+}
+
+// Says how much to lend for planning the table that the bytes are. The words that are needed and the route bytes that are enough go through the last
+// two parameters; a refusal leaves those alone.
+#[no_mangle]
+pub extern "C" fn planner_lend(table: &[u8], need: &mut usize, room: &mut usize) -> u8
+    ensures needs { λ r. ⌜ decodedNeeds r (now (need .exit)) (now (room .exit)) ≡ needed (now (table .entry)) ⌝ }
+    ensures need { λ r. ⌜ Untouched r (now (need .entry)) (now (need .exit)) ⌝ }
+    ensures room { λ r. ⌜ Untouched r (now (room .entry)) (now (room .exit)) ⌝ }
+    ensures promise { λ r. ⌜ Enough (now (table .entry)) (decodedNeeds r (now (need .exit)) (now (room .exit))) ⌝ }
+{
+    let needs = route::lend(table);
+    match needs {
+        Needs::Refused(n) => n,
+        Needs::Memory(w, b) => {
+            *need = w;
+            *room = b;
+            OK
         }
     }
 }

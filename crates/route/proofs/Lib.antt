@@ -12,3 +12,5 @@ pub mod StepBack
 pub mod Answering
 -- And from the bytes to the outcome.
 pub mod Planning
+-- How much to lend.
+pub mod Lending

@@ -1,21 +1,13 @@
 -- From a judgement of the bytes, and from a search and what is read off its words, to the outcome of the definitions.
 -- Assumes nothing.
 use mathlib.Core.Path.{_≡_, refl, sym, ap, subst, _∙_}
-use mathlib.Core.Bool.{true≢false}
 use mathlib.Core.List.{List}
-use Prim.Native.Nat.{ℕ, _*_, _≤_, _<_}
+use Prim.Native.Nat.{ℕ, _*_, _≤_}
 use native.Mathlib.Omega.{arith}
-use lib.ListN.{length, getD, drop}
+use lib.ListN.{length, drop}
 use Rattle.semantics.specs.NodeCount.{nodeCount}
-use Rattle.reader.specs.declared.Verdict.{Verdict}
-use Rattle.reader.specs.declared.Verdict.the-variants.{Accepted, Refused as Verdict·Refused}
-use Rattle.table.specs.Fields.{Fields}
-use Rattle.table.specs.Meaning.{automaton}
 use Rattle.reader.specs.Read.{Judgement, accepted, rejected, read}
 use Rattle.table.specs.Held.{fieldsOf, automatonOf, IsTable}
-use Rattle.reader.specs.Reading.{verdictOf, Reading}
-use Rattle.table.specs.Theorems.Holding.{fields-held}
-use Rattle.reader.specs.Theorems.Accepted.{accepted-fields}
 use Rattle.rules.specs.Rules.{IsRules}
 use Rattle.search.specs.Outcome.{mostNodes}
 use Rattle.search.specs.declared.Searched.{Searched}
@@ -79,21 +71,12 @@ pub outcome-keeps :
 outcome-keeps bytes ws ws′ rs rs′ r e =
     subst (λ (o : Outcome). KeepsDemand bytes (length ws) (o .route) (o .answer)) (sym e) (planned-keeps bytes ws rs)
 
--- From the reading of the bytes.
-module _ (bytes t : List ℕ) (v : Verdict) (is : Reading (read bytes) v t) (ws rs : List ℕ) where
-  -- A refusal of the reader.
-  pub planned-refused : (n : ℕ) → v ≡ Verdict·Refused n → outcome (Refused n) ws rs ≡ planned bytes ws rs
+-- From the judgement of the bytes: a refusal of the reader, and a table that was read.
+module _ (bytes ws rs : List ℕ) where
+  pub planned-refused : (n : ℕ) → read bytes ≡ rejected n → outcome (Refused n) ws rs ≡ planned bytes ws rs
   unfolding planned
-  planned-refused n met = go (read bytes) (is .verdict-is)
-    where
-      go : (j : Judgement) → v ≡ verdictOf j → outcome (Refused n) ws rs ≡ judged j ws rs
-      go (rejected m) e = let q : n ≡ m = cc in ap (λ (k : ℕ). outcome (Refused k) ws rs) q
-      go (accepted f) e = absurd (true≢false cc)
+  planned-refused n e = sym (ap (λ (j : Judgement). judged j ws rs) e)
 
-  -- A table that was read.
-  pub planned-accepted : ((i : ℕ) → getD bytes i 0 < 256) → v ≡ Accepted → plannedTable (automatonOf t) ws rs ≡ planned bytes ws rs
+  pub planned-accepted : (t : List ℕ) → read bytes ≡ accepted (fieldsOf t) → plannedTable (automatonOf t) ws rs ≡ planned bytes ws rs
   unfolding planned
-  planned-accepted small met =
-      let a = accepted-fields bytes t v small is met in
-      let same : fieldsOf t ≡ a .fields = ap fieldsOf (a .holds) ∙ fields-held (a .fields) (a .range) in
-      ap (λ (f : Fields). plannedTable (automaton f) ws rs) same ∙ sym (ap (λ (j : Judgement). judged j ws rs) (a .accepts))
+  planned-accepted t e = sym (ap (λ (j : Judgement). judged j ws rs) e)

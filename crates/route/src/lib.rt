@@ -1,10 +1,11 @@
-// Layer 4: the call that plans a table.
+// Layer 4: the call that plans a table, and the one that says how much to lend for it.
 ghost use mathlib.Core.Path.{_≡_};
 ghost use lib.ListN.{length};
 ghost use Rattle.table.specs.Held.{automatonOf, IsTable};
 ghost use Rattle.route.specs.Plan.{outcome, plannedTable, planned};
 ghost use Rattle.route.specs.Promise.{KeepsDemand};
 ghost use Rattle.route.specs.Found.{Found, ReadOff};
+ghost use Rattle.route.specs.Lend.{neededTable, needed, Enough};
 
 mod walk;
 
@@ -22,6 +23,12 @@ pub enum Answer {
     Refused(u8),
     NoRoute,
     Route(u32, usize),
+}
+
+// A refusal with document 01's number; or the words and the route bytes that are enough for planning.
+pub enum Needs {
+    Refused(u8),
+    Memory(usize, usize),
 }
 
 // Plans the table that the bytes are, with the memory lent for the search and for the route.
@@ -59,6 +66,31 @@ fn plan_table(words: &mut [u32], route: &mut [u8], table: &[u8; TABLE]) -> Answe
             search::clear(words, table);
             answer
         }
+    }
+}
+
+// How much to lend for planning the table that the bytes are. No search is made.
+pub fn lend(bytes: &[u8]) -> Needs
+    ensures needs { λ r. ⌜ r ≡ needed (now (bytes .entry)) ⌝ }
+    ensures promise { λ r. ⌜ Enough (now (bytes .entry)) r ⌝ }
+{
+    let mut table = [0u8; TABLE];
+    let verdict = reader::read(bytes, &mut table);
+    match verdict {
+        Verdict::Refused(n) => Needs::Refused(n),
+        Verdict::Accepted => memory_of(&table),
+    }
+}
+
+// How much to lend for a table that was read.
+fn memory_of(table: &[u8; TABLE]) -> Needs
+    requires { ⌜ IsTable (now table) ⌝ }
+    ensures { λ r. ⌜ r ≡ neededTable (automatonOf (now (table .entry))) ⌝ }
+{
+    let nodes = search::nodes_of(table);
+    match nodes {
+        Searched::Refused(n) => Needs::Refused(n),
+        Searched::Nodes(n) => Needs::Memory(2 * n, n - 1),
     }
 }
 

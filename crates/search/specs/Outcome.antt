@@ -13,6 +13,10 @@ pub use Rattle.regions.specs.Nodes.{mostNodes}
 use Rattle.search.specs.declared.Searched.{Searched}
 use Rattle.search.specs.declared.Searched.the-variants.{Nodes, Refused}
 
+-- "8: E above 65,536". Otherwise E.
+abbrev pub nodesOf : Automaton → Searched
+nodesOf a = cond (leb (nodeCount a) mostNodes) (Nodes (nodeCount a)) (Refused 8)
+
 -- "8: E above 65,536"; then "9: fewer than 2E words lent". Otherwise E.
 abbrev pub answered : Automaton → ℕ → Searched
 answered a lent = cond (leb (nodeCount a) mostNodes) (cond (leb (2 * nodeCount a) lent) (Nodes (nodeCount a)) (Refused 9)) (Refused 8)

@@ -4,7 +4,7 @@ ghost use Prim.Native.Nat.{_<_};
 ghost use lib.ListN.{length};
 ghost use Rattle.table.specs.Held.{automatonOf, IsTable};
 ghost use Rattle.rules.specs.Rules.{IsRules};
-ghost use Rattle.search.specs.Outcome.{answered, searched, cleared};
+ghost use Rattle.search.specs.Outcome.{nodesOf, answered, searched, cleared};
 
 mod edges;
 mod settle;
@@ -27,20 +27,31 @@ pub enum Searched {
     Refused(u8),
 }
 
-fn room(table: &[u8; TABLE], lent: usize) -> Searched
+// E, or 8. No memory is lent and no search is made.
+pub fn nodes_of(table: &[u8; TABLE]) -> Searched
     requires { ⌜ IsTable (now table) ⌝ }
-    ensures { λ r. ⌜ r ≡ answered (automatonOf (now (table .entry))) lent ⌝ }
+    ensures { λ r. ⌜ r ≡ nodesOf (automatonOf (now (table .entry))) ⌝ }
 {
     let count = nodes::node_count(table);
     match count {
         Nodes::TooMany => Searched::Refused(TOO_MANY_NODES),
-        Nodes::Count(n) => {
-            if lent < 2 * n {
-                return Searched::Refused(TOO_FEW_WORDS);
-            }
-            Searched::Nodes(n)
-        }
+        Nodes::Count(n) => Searched::Nodes(n),
     }
+}
+
+// And 9, if so many words are too few.
+fn room(table: &[u8; TABLE], lent: usize) -> Searched
+    requires { ⌜ IsTable (now table) ⌝ }
+    ensures { λ r. ⌜ r ≡ answered (automatonOf (now (table .entry))) lent ⌝ }
+{
+    let count = nodes_of(table);
+    let Searched::Nodes(n) = count else {
+        return count;
+    };
+    if lent < 2 * n {
+        return Searched::Refused(TOO_FEW_WORDS);
+    }
+    count
 }
 
 // Finds the least charge and number of steps from the start to every corner that is as near as the goal.

@@ -1,18 +1,18 @@
 -- The bytes of an accepted table are a table, and hold the fields that were read.
 -- Assumes nothing.
 use Prim.Native.Nat.{ℕ, _<_}
-use mathlib.Core.Path.{_≡_, refl, sym, subst, _∙_}
+use mathlib.Core.Path.{_≡_, refl, sym, ap, subst, _∙_}
 use mathlib.Core.List.{List}
 use lib.ListN.{length, getD}
 use Rattle.semantics.specs.Distinct.{distinct}
 use Rattle.table.specs.Fields.{Fields}
-use Rattle.table.specs.Held.{held, InRange, IsTable}
-use Rattle.table.specs.Theorems.Holding.{Shaped, held-table}
+use Rattle.table.specs.Held.{held, fieldsOf, InRange, IsTable}
+use Rattle.table.specs.Theorems.Holding.{Shaped, held-table, fields-held}
 use Rattle.reader.specs.declared.Verdict.{Verdict}
-use Rattle.reader.specs.declared.Verdict.the-variants.{Accepted}
+use Rattle.reader.specs.declared.Verdict.the-variants.{Accepted, Refused}
 use Rattle.reader.specs.Layout.{Layout}
 use Rattle.reader.specs.Read.{Judgement, accepted, rejected, read}
-use Rattle.reader.specs.Reading.{Reading}
+use Rattle.reader.specs.Reading.{verdictOf, Reading}
 use Rattle.reader.specs.Theorems.Accepts.{accepts}
 use Rattle.reader.specs.Theorems.Limits.{accepted-bounded}
 use Rattle.reader.specs.Theorems.Rows.{row-all}
@@ -61,5 +61,19 @@ module _ (bytes t : List ℕ) (v : Verdict) (small : (i : ℕ) → getD bytes i 
       go (accepted f) e r = record { fields = f; accepts = e; holds = r .table-is; range = accepted-range bytes f small e }
       go (rejected n) e r = let no = sym met ∙ r .verdict-is in distinct cc
 
+  -- The judgement of the bytes, in terms of the table.
+  pub accepted-read : read bytes ≡ accepted (fieldsOf t)
+  accepted-read =
+      let a = accepted-fields in
+      a .accepts ∙ ap accepted (sym (ap fieldsOf (a .holds) ∙ fields-held (a .fields) (a .range)))
+
   pub accepted-table : IsTable t
   accepted-table = let a = accepted-fields in subst IsTable (sym (a .holds)) (held-table (a .fields) (a .range))
+
+-- And after a refusal.
+pub rejected-read : (bytes t : List ℕ) (v : Verdict) → Reading (read bytes) v t → (n : ℕ) → v ≡ Refused n → read bytes ≡ rejected n
+rejected-read bytes t v is n met = go (read bytes) (is .verdict-is)
+  where
+    go : (j : Judgement) → v ≡ verdictOf j → j ≡ rejected n
+    go (accepted f) e = distinct cc
+    go (rejected m) e = let q : m ≡ n = cc in ap rejected q

@@ -17,27 +17,45 @@ use Rattle.regions.specs.declared.nodes.Nodes.the-variants.{Count, TooMany}
 use Rattle.regions.specs.Nodes.{mostNodes, bounded}
 use Rattle.search.specs.declared.Searched.{Searched}
 use Rattle.search.specs.declared.Searched.the-variants.{Nodes, Refused}
-use Rattle.search.specs.Outcome.{answered, unlessRefused, searched, cleared}
+use Rattle.search.specs.Outcome.{nodesOf, answered, unlessRefused, searched, cleared}
 
--- The count of the nodes says that there are n, which is few; or that they are too many.
-pub count-few : (e n : ℕ) → bounded e ≡ Count n → (e ≡ n) × (n ≤ mostNodes)
-count-few e n = go (leb e mostNodes) refl
-  where
-    go : (b : Bool) → leb e mostNodes ≡ b → cond b (Count e) TooMany ≡ Count n → (e ≡ n) × (n ≤ mostNodes)
-    go true q h = let s : e ≡ n = cc in (s, omega (arith, leb-true e mostNodes q))
-    go false q h = distinct cc
+-- E, or 8: from the count of the nodes.
+module _ (a : Automaton) where
+  pub nodes-many : bounded (nodeCount a) ≡ TooMany → Refused 8 ≡ nodesOf a
+  nodes-many = go (leb (nodeCount a) mostNodes)
+    where
+      go : (b : Bool) → cond b (Count (nodeCount a)) TooMany ≡ TooMany → Refused 8 ≡ cond b (Nodes (nodeCount a)) (Refused 8)
+      go true h = distinct cc
+      go false h = refl
 
-pub count-many : (e : ℕ) → bounded e ≡ TooMany → mostNodes < e
-count-many e = go (leb e mostNodes) refl
-  where
-    go : (b : Bool) → leb e mostNodes ≡ b → cond b (Count e) TooMany ≡ TooMany → mostNodes < e
-    go true q h = distinct cc
-    go false q h = leb-false e mostNodes q
+  pub nodes-few : (n : ℕ) → bounded (nodeCount a) ≡ Count n → Nodes n ≡ nodesOf a
+  nodes-few n = go (leb (nodeCount a) mostNodes)
+    where
+      go : (b : Bool) → cond b (Count (nodeCount a)) TooMany ≡ Count n → Nodes n ≡ cond b (Nodes (nodeCount a)) (Refused 8)
+      go true h = let e : n ≡ nodeCount a = cc in ap Nodes e
+      go false h = distinct cc
+
+  -- The nodes are n, and few enough.
+  pub record Counts (n : ℕ) : Type 0 where
+    pub counted : n ≡ nodeCount a
+    pub few : n ≤ mostNodes
+
+  pub nodes-counted : (n : ℕ) → nodesOf a ≡ Nodes n → Counts n
+  nodes-counted n = go (leb (nodeCount a) mostNodes) refl
+    where
+      go : (b : Bool) → leb (nodeCount a) mostNodes ≡ b → cond b (Nodes (nodeCount a)) (Refused 8) ≡ Nodes n → Counts n
+      go true q h = let e : n ≡ nodeCount a = cc in record { counted = e; few = omega (arith, leb-true (nodeCount a) mostNodes q) }
+      go false q h = distinct cc
 
 module _ (a : Automaton) (lent : ℕ) where
   -- The three answers.
-  pub answer-many : mostNodes < nodeCount a → Refused 8 ≡ answered a lent
-  answer-many h = rw (lt-leb (nodeCount a) mostNodes h)
+  pub answer-many : (k : ℕ) → nodesOf a ≡ Refused k → nodesOf a ≡ answered a lent
+  answer-many k = go (leb (nodeCount a) mostNodes)
+    where
+      go : (b : Bool) → cond b (Nodes (nodeCount a)) (Refused 8) ≡ Refused k
+          → cond b (Nodes (nodeCount a)) (Refused 8) ≡ cond b (cond (leb (2 * nodeCount a) lent) (Nodes (nodeCount a)) (Refused 9)) (Refused 8)
+      go true h = distinct cc
+      go false h = refl
 
   pub answer-short : (n : ℕ) → nodeCount a ≡ n → n ≤ mostNodes → lent < 2 * n → Refused 9 ≡ answered a lent
   answer-short n e few h = rw (e, le-leb n mostNodes few, lt-leb (2 * n) lent h)

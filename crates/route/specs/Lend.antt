@@ -1,4 +1,4 @@
--- "How much to lend": what planning needs of memory, from the bytes alone; and what that promises of planning.
+-- Document 02, "How much to lend": what planning needs of memory, from the bytes alone; and what that promises of planning.
 -- Assumes nothing.
 use mathlib.Core.Path.{_≡_}
 use mathlib.Core.Logic.{_↔_}

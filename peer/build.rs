@@ -1,4 +1,4 @@
-//! Links the archive that `rt staticlib planner` writes, or the one whose basic blocks are counted,
+//! Links the archive that unit/bitcode writes, or the one whose basic blocks are counted,
 //! which run-peer makes for `worst`.
 
 fn main() {

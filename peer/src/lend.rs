@@ -13,13 +13,11 @@ pub enum Needs {
 /// Of a table with so many nodes, if it follows the layout, that is answered so where memory is
 /// without limit: "Tables refused by 1 to 8 get the same number here", and otherwise 2E and E - 1.
 pub fn of(answer: &Answer, nodes: Option<u64>) -> Needs {
-    match (answer, nodes) {
-        (Answer::Refused(number), _) => Needs::Refused(*number),
-        (_, nodes) => {
-            let nodes = nodes.unwrap_or(0) as usize;
-            Needs::Memory { words: 2 * nodes, route_bytes: nodes - 1 }
-        }
+    if let Answer::Refused(number) = answer {
+        return Needs::Refused(*number);
     }
+    let nodes = nodes.expect("a table that is not refused follows the layout") as usize;
+    Needs::Memory { words: 2 * nodes, route_bytes: nodes - 1 }
 }
 
 /// What the proved call gives; an error if it touched what it may not.

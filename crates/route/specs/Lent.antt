@@ -1,6 +1,6 @@
 -- The memory that the definitions give is enough for planning, and its words are needed.
 -- Assumes nothing.
-use mathlib.Core.Path.{_≡_, refl, sym, ap, _∙_}
+use mathlib.Core.Path.{_≡_, refl, ap}
 use mathlib.Core.Logic.{_↔_}
 use mathlib.Core.Bool.{Bool, true, false, cond}
 use mathlib.Core.List.{List, _++_}
@@ -21,11 +21,9 @@ use Rattle.reader.specs.Theorems.Proper.{accepted-proper}
 use Rattle.reader.specs.Theorems.Refusals.{rejected-range}
 use Rattle.search.specs.Outcome.{mostNodes, cleared}
 use Rattle.search.specs.declared.Searched.the-variants.{Nodes as Searched·Nodes, Refused as Searched·Refused}
-use Rattle.route.specs.declared.Answer.{Answer}
 use Rattle.route.specs.declared.Answer.the-variants.{Refused as Answer·Refused, Route}
-use Rattle.route.specs.declared.Needs.{Needs}
 use Rattle.route.specs.declared.Needs.the-variants.{Refused, Memory}
-use Rattle.route.specs.Plan.{outcome, routed, afterRoom, plannedTable, judged, planned}
+use Rattle.route.specs.Plan.{outcome, routed, afterRoom, plannedTable, planned}
 use Rattle.route.specs.Lend.{neededTable, neededJudged, needed, Enough}
 
 -- After a search only a route that is longer than the memory for it is refused, by 10.

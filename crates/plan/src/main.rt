@@ -7,10 +7,11 @@ ghost use Rattle.io.specs.Counts.{Counts};
 ghost use Rattle.report.specs.Text.{printed};
 use libc::STDIN_FILENO;
 use libc::STDOUT_FILENO;
+use reader::LONGEST;
 use report::TEXT;
 
 // One byte more than the longest table has.
-const KEPT: usize = 840;
+const KEPT: usize = LONGEST + 1;
 
 fn main() {
     let mut bytes = [0u8; KEPT];

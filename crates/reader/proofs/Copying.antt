@@ -13,14 +13,14 @@ use Rattle.reader.specs.declared.fields.Field.{Field}
 use Rattle.reader.proofs.Giving.{part-taken, part-refused, part-last}
 
 -- A byte that was read within its range.
-copies-at : {low high at r next v : ℕ} {bytes : List ℕ} (t : List ℕ) → (r ≡ 0 → (low ≤ v) × (v ≤ high) × (next ≡ at + 1)) →
-    Gives bytes r next (λ b. v ≡ b) (run (within 2 low high) (drop at bytes)) → Copies bytes low high at r (Copied low high t at (set t at v))
+copies-at : {least most at r next v : ℕ} {bytes : List ℕ} (t : List ℕ) → (r ≡ 0 → (least ≤ v) × (v ≤ most) × (next ≡ at + 1)) →
+    Gives bytes r next (λ b. v ≡ b) (run (within 2 least most) (drop at bytes)) → Copies bytes least most at r (Copied least most t at (set t at v))
 copies-at t k (refuses z e) = refuses z e
 copies-at {at = at} {bytes = bytes} t k (gives b z e f) =
     gives b z (e ∙ ap (λ (n : ℕ). took b (drop n bytes)) (k z .2)) (record { is = ap (set t at) f; range = omega (arith, k z) })
 
-pub copies : {low high at : ℕ} {bytes : List ℕ} {r : Field} (t : List ℕ) → GivesWithin 2 low high bytes at r →
-    Copies bytes low high at (r .refusal) (Copied low high t at (set t at (r .value)))
+pub copies : {least most at : ℕ} {bytes : List ℕ} {r : Field} (t : List ℕ) → GivesWithin 2 least most bytes at r →
+    Copies bytes least most at (r .refusal) (Copied least most t at (set t at (r .value)))
 copies t g = copies-at t (g .range) (g .gives)
 
 -- The header's first three bytes are written.
@@ -32,7 +32,7 @@ module _ {t t₁ t₂ t₃ : List ℕ} {a b c : ℕ} (k : Copied 1 16 t 0 t₁ a
   mode-count : 4 ≤ length t → getD t₃ 0 0 ≡ a
   mode-count long = ap (λ (u : List ℕ). getD u 0 0) (three-set ∙ sets-eq (a ∷ b ∷ c ∷ []) t 0 (omega arith))
 
-  goal-set : {t₄ : List ℕ} {d high : ℕ} → 4 ≤ length t → Copied 0 high t₃ 3 t₄ d → t₄ ≡ a ∷ b ∷ c ∷ d ∷ drop 4 t
+  goal-set : {t₄ : List ℕ} {d most : ℕ} → 4 ≤ length t → Copied 0 most t₃ 3 t₄ d → t₄ ≡ a ∷ b ∷ c ∷ d ∷ drop 4 t
   goal-set {d = d} long i = i .is ∙ ap (λ (u : List ℕ). set u 3 d) three-set ∙ sets-eq (a ∷ b ∷ c ∷ d ∷ []) t 0 long
 
 pub header-first : {bytes t t′ t″ : List ℕ} {r : ℕ} → (r ≡ 0 → ⊥) → Copies bytes 1 16 0 r (Copied 1 16 t 0 t′) → WritesHeader bytes t t″ r

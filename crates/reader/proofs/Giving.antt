@@ -4,14 +4,14 @@ use Prim.Native.Nat.{ℕ, _+_, _/_, _%_, _^_, _≤_, _<_}
 use native.Mathlib.Nat.{div-one}
 use native.Mathlib.Omega.{arith}
 use mathlib.Core.Path.{_≡_, refl, sym, ap, subst, _∙_}
-use mathlib.Core.Bool.{true, cond, _&&_}
+use mathlib.Core.Bool.{Bool, cond}
 use mathlib.Core.List.{List}
-use borrow.Author.Tests.{le-leb, lt-leb, eq-eqb, ne-eqb, le-ltb, lt-ltb}
+use borrow.Author.Tests.{le-leb, lt-leb, le-ltb, lt-ltb}
 use lib.Dec.{eqb}
 use lib.ListN.{length, getD, drop}
 use Rattle.semantics.specs.Distinct.{distinct}
 use Rattle.reader.specs.Parser.{Parser, done, refuse, _>>=_, Outcome, refused, took, run}
-use Rattle.reader.specs.Format.{within, amount, present, bitMap}
+use Rattle.reader.specs.Format.{anyByte, tested, within, ifStands, mapPresent, bitMap, amountByte, resetPresent, resetByte}
 use Rattle.reader.specs.Step.{Gives, refuses, gives}
 use Rattle.reader.specs.Theorems.Running.{run-bind, run-byte, run-none, andThen, parts, took-same, took-rest}
 
@@ -79,60 +79,58 @@ module _ {bytes : List ℕ} where
         gives-same (whole ∙ ap (run (f (one .value) (two .value))) (took-rest (two .second)))
         (k (one .value) (two .value) (subst P (sym (took-same (two .second))) m))
 
--- A byte that is wanted within a range is missing, too low, too high or right.
-module _ (bytes : List ℕ) (from number low high : ℕ) where
-  pub within-none : length bytes ≤ from → run (within number low high) (drop from bytes) ≡ refused 1
+-- A byte that is wanted within a range is missing, below it, above it or right.
+module _ (bytes : List ℕ) (from number least most : ℕ) where
+  pub within-none : length bytes ≤ from → run (within number least most) (drop from bytes) ≡ refused 1
   unfolding within
   within-none h = run-none _ bytes from h
 
-  pub within-low : from < length bytes → getD bytes from 0 < low → run (within number low high) (drop from bytes) ≡ refused number
+  pub within-below : from < length bytes → getD bytes from 0 < least → run (within number least most) (drop from bytes) ≡ refused number
   unfolding within
-  within-low h l = run-byte _ bytes from h ∙ rw (lt-leb low (getD bytes from 0) l)
+  within-below h l = run-byte _ bytes from h ∙ rw (lt-leb least (getD bytes from 0) l)
 
-  pub within-high : from < length bytes → low ≤ getD bytes from 0 → high < getD bytes from 0 →
-      run (within number low high) (drop from bytes) ≡ refused number
+  pub within-above : from < length bytes → least ≤ getD bytes from 0 → most < getD bytes from 0 →
+      run (within number least most) (drop from bytes) ≡ refused number
   unfolding within
-  within-high h l g = run-byte _ bytes from h ∙ rw (le-leb low (getD bytes from 0) l, lt-leb (getD bytes from 0) high g)
+  within-above h l g = run-byte _ bytes from h ∙ rw (le-leb least (getD bytes from 0) l, lt-leb (getD bytes from 0) most g)
 
-  pub within-right : from < length bytes → low ≤ getD bytes from 0 → getD bytes from 0 ≤ high →
-      run (within number low high) (drop from bytes) ≡ took (getD bytes from 0) (drop (from + 1) bytes)
+  pub within-right : from < length bytes → least ≤ getD bytes from 0 → getD bytes from 0 ≤ most →
+      run (within number least most) (drop from bytes) ≡ took (getD bytes from 0) (drop (from + 1) bytes)
   unfolding within
-  within-right h l g = run-byte _ bytes from h ∙ rw (le-leb low (getD bytes from 0) l, le-leb (getD bytes from 0) high g)
+  within-right h l g = run-byte _ bytes from h ∙ rw (le-leb least (getD bytes from 0) l, le-leb (getD bytes from 0) most g)
 
--- A rate or price: its bit does not stand, its byte is missing, or it is there.
-module _ (bytes : List ℕ) (from map : ℕ) where
-  low-bit : map / 2 ^ 0 % 2 ≡ map % 2
-  low-bit = ap (λ (m : ℕ). m % 2) (div-one map)
+-- The bit of the low byte.
+pub low-same : (map : ℕ) (s : List ℕ) → run (amountByte map 0) s ≡ run (ifStands (eqb (map % 2) 1) anyByte) s
+unfolding amountByte
+low-same map s = ap (λ (m : ℕ). run (ifStands (eqb (m % 2) 1) anyByte) s) (div-one map)
 
-  pub amount-absent : map % 2 ≡ 0 → run (amount map) (drop from bytes) ≡ took 0 (drop from bytes)
-  unfolding amount
-  amount-absent h = rw (ne-eqb (map / 2 ^ 0 % 2) 1 (omega (arith, low-bit)))
+-- A byte that was read goes on to its test.
+module _ {bytes : List ℕ} {r next : ℕ} (from n limit b : ℕ) (e : limit ≡ 2 ^ n) (z : r ≡ 0)
+    (g : Gives bytes r next (λ a. b ≡ a) (run anyByte (drop from bytes))) where
+  tested-on : {r′ next′ : ℕ} {P : ℕ → Type 0} (passes : ℕ → Bool) (number : ℕ) →
+      Gives bytes r′ next′ P (run (cond (passes b) (done b) (refuse number)) (drop next bytes)) → Gives bytes r′ next′ P (run (tested passes number) (drop from bytes))
+  tested-on passes number k = part-known anyByte _ (drop from bytes) z g k
 
-  stands-there : (map % 2 ≡ 0 → ⊥) → eqb (map / 2 ^ 0 % 2) 1 ≡ true
-  stands-there h = eq-eqb (map / 2 ^ 0 % 2) 1 (omega (arith, low-bit))
-
-  pub amount-none : (map % 2 ≡ 0 → ⊥) → length bytes ≤ from → run (amount map) (drop from bytes) ≡ refused 1
-  unfolding amount
-  amount-none h l = rw (stands-there h) (run-none _ bytes from l)
-
-  pub amount-there : (map % 2 ≡ 0 → ⊥) → from < length bytes → run (amount map) (drop from bytes) ≡ took (getD bytes from 0) (drop (from + 1) bytes)
-  unfolding amount
-  amount-there h l = rw (stands-there h) (run-byte _ bytes from l)
-
--- A bit map behind its byte: a bit of the first three or of the further three is for an absent timer, or none is.
-module _ {bytes : List ℕ} {r next : ℕ} (from high n limit b : ℕ) (e : limit ≡ 2 ^ n) (z : r ≡ 0)
-    (g : Gives bytes r next (λ a. b ≡ a) (run (within 3 0 high) (drop from bytes))) where
-  map-goes-on : {r′ next′ : ℕ} {P : ℕ → Type 0} →
-      Gives bytes r′ next′ P (run (cond (present n (b / 2 % 8) && present n (b / 16 % 8)) (done b) (refuse 3)) (drop next bytes)) →
-      Gives bytes r′ next′ P (run (bitMap high n) (drop from bytes))
+  -- A bit map: a bit of the first three or of the further three is for an absent timer, or none is.
+  pub map-first : {next′ : ℕ} {P : ℕ → Type 0} → limit ≤ b / 2 % 8 → Gives bytes 3 next′ P (run (bitMap n) (drop from bytes))
   unfolding bitMap
-  map-goes-on k = part-known (within 3 0 high) _ (drop from bytes) z g k
+  map-first h = tested-on (mapPresent n) 3 (refuses (omega arith) (rw (le-ltb (b / 2 % 8) (2 ^ n) (omega arith))))
 
-  pub map-first : {next′ : ℕ} {P : ℕ → Type 0} → limit ≤ b / 2 % 8 → Gives bytes 3 next′ P (run (bitMap high n) (drop from bytes))
-  map-first h = map-goes-on (refuses (omega arith) (rw (le-ltb (b / 2 % 8) (2 ^ n) (omega arith))))
+  pub map-further : {next′ : ℕ} {P : ℕ → Type 0} → b / 2 % 8 < limit → limit ≤ b / 16 % 8 → Gives bytes 3 next′ P (run (bitMap n) (drop from bytes))
+  unfolding bitMap
+  map-further k h =
+      tested-on (mapPresent n) 3 (refuses (omega arith) (rw (lt-ltb (b / 2 % 8) (2 ^ n) (omega arith), le-ltb (b / 16 % 8) (2 ^ n) (omega arith))))
 
-  pub map-further : {next′ : ℕ} {P : ℕ → Type 0} → b / 2 % 8 < limit → limit ≤ b / 16 % 8 → Gives bytes 3 next′ P (run (bitMap high n) (drop from bytes))
-  map-further k h = map-goes-on (refuses (omega arith) (rw (lt-ltb (b / 2 % 8) (2 ^ n) (omega arith), le-ltb (b / 16 % 8) (2 ^ n) (omega arith))))
+  pub map-right : b / 2 % 8 < limit → b / 16 % 8 < limit → Gives bytes r next (λ a. b ≡ a) (run (bitMap n) (drop from bytes))
+  unfolding bitMap
+  map-right k h =
+      tested-on (mapPresent n) 3 (gives b z (rw (lt-ltb (b / 2 % 8) (2 ^ n) (omega arith), lt-ltb (b / 16 % 8) (2 ^ n) (omega arith))) refl)
 
-  pub map-right : b / 2 % 8 < limit → b / 16 % 8 < limit → Gives bytes r next (λ a. b ≡ a) (run (bitMap high n) (drop from bytes))
-  map-right k h = map-goes-on (gives b z (rw (lt-ltb (b / 2 % 8) (2 ^ n) (omega arith), lt-ltb (b / 16 % 8) (2 ^ n) (omega arith))) refl)
+  -- A reset byte: a bit below bit 7 is for no timer that is there, or none is.
+  pub reset-wrong : {next′ : ℕ} {P : ℕ → Type 0} → limit ≤ b % 128 → Gives bytes 3 next′ P (run (resetByte n) (drop from bytes))
+  unfolding resetByte
+  reset-wrong h = tested-on (resetPresent n) 3 (refuses (omega arith) (rw (le-ltb (b % 128) (2 ^ n) (omega arith))))
+
+  pub reset-right : b % 128 < limit → Gives bytes r next (λ a. b ≡ a) (run (resetByte n) (drop from bytes))
+  unfolding resetByte
+  reset-right h = tested-on (resetPresent n) 3 (gives b z (rw (lt-ltb (b % 128) (2 ^ n) (omega arith))) refl)

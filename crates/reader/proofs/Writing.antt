@@ -7,9 +7,10 @@ use native.Mathlib.Omega.{arith}
 use mathlib.Core.Path.{_≡_, refl, sym, ap, ap₂, _∙_}
 use mathlib.Core.List.{List, [], _∷_, _++_, map, append-assoc, append-nil}
 use lib.ListN.{length, length-append, set}
-use lib.Seq.{sets}
-use Rattle.table.specs.Held.{flat}
-use Rattle.reader.specs.Step.{Wrote}
+use lib.Seq.{sets, set-set, set-comm}
+use Rattle.table.specs.Fields.{amountOf}
+use Rattle.table.specs.Held.{flat, modeBytes, moveBytes}
+use Rattle.reader.specs.Step.{Wrote, WrotePriced, WroteResets}
 
 sets-append : (xs ys t : List ℕ) (at : ℕ) → sets t at (xs ++ ys) ≡ sets (sets t at xs) (at + length xs) ys
 sets-append [] ys t at = ap (λ (k : ℕ). sets t k ys) (sym (add-zero at))
@@ -54,6 +55,45 @@ wrote-byte {at} {i} {t′ = t′} e w = wrote-then w (record { is = ap (λ (x : 
 pub wrote-two : (t : List ℕ) (at : ℕ) {v w x y : ℕ} → v ≡ x → w ≡ y → Wrote 2 t at (set (set t at v) (at + 1) w) (x ∷ y ∷ [])
 wrote-two t at e f = record { is = rw (add-one at, e, f); long = refl }
 
--- A rate or price of one byte, its high byte 0.
-pub wrote-amount : (t : List ℕ) (at v : ℕ) → v < 256 → Wrote 2 t at (set (set t at v) (at + 1) 0) (v % 256 ∷ v / 256 ∷ [])
-wrote-amount t at v h = wrote-two t at (omega arith) (omega arith)
+-- A byte below those that are written.
+set-sets : (t ys : List ℕ) (j k z : ℕ) → j < k → set (sets t k ys) j z ≡ sets (set t j z) k ys
+set-sets t [] j k z h = refl
+set-sets t (y ∷ ys) j k z h =
+    set-sets (set t k y) ys j (suc k) z (omega arith)
+    ∙ ap (λ (u : List ℕ). sets u (suc k) ys) (set-comm t k j y z (λ e. omega arith))
+
+-- A byte that is written over one of those.
+pub wrote-over : {n at : ℕ} {t t′ t″ : List ℕ} (xs : List ℕ) (y z : ℕ) (ys : List ℕ) → Wrote n t at t′ (xs ++ y ∷ ys) → t″ ≡ set t′ (at + length xs) z →
+    Wrote n t at t″ (xs ++ z ∷ ys)
+wrote-over {at = at} {t = t} xs y z ys w e =
+    let k = at + length xs in
+    let u = sets t at xs in
+    record {
+      is =
+          e ∙ ap (λ (v : List ℕ). set v k z) (w .is ∙ sets-append xs (y ∷ ys) t at) ∙ set-sets (set u k y) ys k (suc k) z (omega arith)
+          ∙ ap (λ (v : List ℕ). sets v (suc k) ys) (set-set u k y z) ∙ sym (sets-append xs (z ∷ ys) t at);
+      long = omega (arith, length-append xs (y ∷ ys), length-append xs (z ∷ ys), w .long);
+    }
+
+-- The two bytes of a rate or price.
+low-of : (low high : ℕ) → low < 256 → amountOf low high % 256 ≡ low
+low-of low high h = omega arith
+
+high-of : (low high : ℕ) → low < 256 → amountOf low high / 256 ≡ high
+high-of low high h = omega arith
+
+-- The high byte of a mode record comes last.
+pub wrote-mode : {at low : ℕ} (high : ℕ) {t t′ t″ cs : List ℕ} → WrotePriced t at t′ (low, cs) → t″ ≡ set t′ (at + 1) high →
+    Wrote 8 t at t″ (modeBytes (record { rate = amountOf low high; conditions = cs }))
+wrote-mode {low = low} high {cs = cs} w e =
+    rw (low-of low high (w .low), high-of low high (w .low)) (wrote-over (low ∷ []) 0 high cs (w .wrote) e)
+
+-- The high byte of a move record comes last.
+pub wrote-move : {at source target low reset v : ℕ} (high : ℕ) {t t₁ t₂ t₃ t₄ cs : List ℕ} → Wrote 2 t at t₁ (source ∷ target ∷ []) →
+    WrotePriced t₁ (at + 2) t₂ (low, cs) → WroteResets v t₂ (at + 10) t₃ reset → t₄ ≡ set t₃ (at + 2 + 1) high →
+    Wrote 12 t at t₄ (moveBytes (record { source = source; target = target; price = amountOf low high; conditions = cs; resets = reset % 8 }))
+wrote-move {at} {source} {target} {low} {reset} high {t₃ = t₃} {cs = cs} ends w u e =
+    let place : at + 2 + 1 ≡ at + 3 = omega arith in
+    rw (low-of low high (w .low), high-of low high (w .low))
+    (wrote-over (source ∷ target ∷ low ∷ []) 0 high (cs ++ reset % 8 ∷ 0 ∷ []) (wrote-then (wrote-then ends (w .wrote)) (u .wrote))
+    (e ∙ ap (λ (k : ℕ). set t₃ k high) place))

@@ -1,11 +1,12 @@
--- The layout of a table as a relation between bytes and fields: document 01, "Bytes of a table". It says nothing of how bytes are read.
+-- The layout of a table as a relation between bytes and fields: document 01, "Bytes of a table", with the high bytes of document 02, N2. It says
+-- nothing of how bytes are read.
 -- Assumes nothing.
-use Prim.Native.Nat.{ℕ, suc, _+_, _/_, _≤_, _<_}
+use Prim.Native.Nat.{ℕ, suc, _+_, _/_, _%_, _≤_, _<_}
 use mathlib.Core.Path.{_≡_}
 use mathlib.Core.Bool.{Bool, true, false}
 use mathlib.Core.List.{List, [], _∷_, _++_, List·Memᴰ}
 use lib.ListN.{length}
-use Rattle.table.specs.Fields.{ModeFields, MoveFields, Fields}
+use Rattle.table.specs.Fields.{amountOf, ModeFields, MoveFields, Fields}
 use Rattle.table.specs.Meaning.{stands}
 
 -- "only the fields whose bit stands": one good byte, or no byte and 0.
@@ -22,9 +23,9 @@ pub data InRow {A : Type 0} (R : ℕ → List ℕ → A → Type 0) : ℕ → Li
 abbrev pub TimersThere : ℕ → ℕ → ℕ → Type 0
 TimersThere n first b = (x : ℕ) → x < 3 → stands b (first + x) ≡ true → x < n
 
--- "Bit 0: rate or price, one byte."
-abbrev pub Amount : ℕ → List ℕ → ℕ → Type 0
-Amount map = Optional (λ b. Unit {0}) (stands map 0)
+-- A byte of a rate or price: the low one, "bit 0" of the map, or the high one, bit 7 of the byte that announces it.
+abbrev pub AmountByte : ℕ → ℕ → List ℕ → ℕ → Type 0
+AmountByte announcing bit = Optional (λ b. Unit {0}) (stands announcing bit)
 
 -- "A condition byte is 16 × code + value, value 0 to 15; codes 1 to 5".
 abbrev pub IsCondition : ℕ → Type 0
@@ -35,38 +36,49 @@ pub record SixConditions (map : ℕ) (bytes : List ℕ) (cs : List ℕ) : Type 0
   pub six : length cs ≡ 6
   pub row : InRow (λ bit. Optional IsCondition (stands map bit)) 1 bytes cs
 
--- "a byte whose bits 0 to 2 name timers".
+-- "a byte whose bits 0 to 2 name timers". Bits 3 to 6 do not stand; bit 7 may.
 pub record IsReset (n b : ℕ) : Type 0 where
-  pub bits : b < 8
+  pub bits : b % 128 < 8
   pub there : TimersThere n 0 b
 
--- "A mode record is a bit map, then only the fields whose bit stands, by rising bit." Bit 7 is for moves only.
+-- "A mode record is a bit map, then only the fields whose bit stands, by rising bit." The high byte "stands in a mode if map bit 7 stands".
 pub record ModeLayout (n : ℕ) (bytes : List ℕ) (f : ModeFields) : Type 0 where
   pub map : ℕ
-  pub rate-bytes : List ℕ
+  pub low : ℕ
+  pub high : ℕ
+  pub low-bytes : List ℕ
   pub condition-bytes : List ℕ
-  pub split : bytes ≡ map ∷ (rate-bytes ++ condition-bytes)
-  pub no-bit-7 : map < 128
+  pub high-bytes : List ℕ
+  pub split : bytes ≡ map ∷ (low-bytes ++ (condition-bytes ++ high-bytes))
   pub first : TimersThere n 1 map
   pub further : TimersThere n 4 map
-  pub rate : Amount map rate-bytes (f .rate)
+  pub has-low : AmountByte map 0 low-bytes low
   pub conditions : SixConditions map condition-bytes (f .conditions)
+  pub has-high : AmountByte map 7 high-bytes high
+  pub rate : amountOf low high ≡ f .rate
 
--- "A move record is a bit map, the from mode, the to mode, then its fields likewise." "Bit 7, moves only: resets".
+-- "A move record is a bit map, the from mode, the to mode, then its fields likewise." "Bit 7, moves only: resets". The high byte stands "in a
+-- move if bit 7 of the reset byte stands"; the reset byte's other bits name timers.
 pub record MoveLayout (m n : ℕ) (bytes : List ℕ) (f : MoveFields) : Type 0 where
   pub map : ℕ
-  pub price-bytes : List ℕ
+  pub low : ℕ
+  pub reset : ℕ
+  pub high : ℕ
+  pub low-bytes : List ℕ
   pub condition-bytes : List ℕ
   pub reset-bytes : List ℕ
-  pub split : bytes ≡ map ∷ f .source ∷ f .target ∷ (price-bytes ++ (condition-bytes ++ reset-bytes))
-  pub byte : map < 256
+  pub high-bytes : List ℕ
+  pub split : bytes ≡ map ∷ f .source ∷ f .target ∷ (low-bytes ++ (condition-bytes ++ (reset-bytes ++ high-bytes)))
   pub first : TimersThere n 1 map
   pub further : TimersThere n 4 map
   pub source : f .source < m
   pub target : f .target < m
-  pub price : Amount map price-bytes (f .price)
+  pub has-low : AmountByte map 0 low-bytes low
   pub conditions : SixConditions map condition-bytes (f .conditions)
-  pub resets : Optional (IsReset n) (stands map 7) reset-bytes (f .resets)
+  pub has-reset : Optional (IsReset n) (stands map 7) reset-bytes reset
+  pub has-high : AmountByte reset 7 high-bytes high
+  pub price : amountOf low high ≡ f .price
+  pub resets : reset % 8 ≡ f .resets
 
 -- "Byte 0: modes m, 1 to 16. Byte 1: timers n, 1 to 3. Byte 2: moves e, 0 to 64. Byte 3: goal, below m. Then n ceilings, 1 to 15. Then m mode
 -- records, then e move records."

@@ -1,7 +1,7 @@
 // Single fields of a table: each function reads from a place on with one parser of the definitions.
 ghost use mathlib.Core.Path.{_≡_};
 ghost use Prim.Native.Nat.{_<_, _≤_, _^_};
-ghost use Rattle.reader.specs.Format.{within, ifStands, amount, bitMap};
+ghost use Rattle.reader.specs.Format.{anyByte, within, ifStands, bitMap, resetByte};
 ghost use Rattle.reader.specs.Step.{GivesField, GivesWithin};
 use crate::ABSENT_TIMER;
 use crate::NO_BYTE_LEFT;
@@ -13,10 +13,10 @@ pub struct Field {
     pub value: u8,
 }
 
-// A byte from low to high.
-pub fn byte_within(bytes: &[u8], from: usize, number: u8, low: u8, high: u8) -> Field
+// A byte from least to most.
+pub fn byte_within(bytes: &[u8], from: usize, number: u8, least: u8, most: u8) -> Field
     requires { ⌜ 0 < number ⌝ }
-    ensures { λ r. ⌜ GivesWithin number low high (now (bytes .entry)) from r ⌝ }
+    ensures { λ r. ⌜ GivesWithin number least most (now (bytes .entry)) from r ⌝ }
 {
     if bytes.len() <= from {
         return Field {
@@ -26,14 +26,14 @@ pub fn byte_within(bytes: &[u8], from: usize, number: u8, low: u8, high: u8) -> 
         };
     }
     let b = bytes[from];
-    if b < low {
+    if b < least {
         return Field {
             refusal: number,
             next: from,
             value: 0,
         };
     }
-    if high < b {
+    if most < b {
         return Field {
             refusal: number,
             next: from,
@@ -48,12 +48,12 @@ pub fn byte_within(bytes: &[u8], from: usize, number: u8, low: u8, high: u8) -> 
 }
 
 // The same where its bit stands; otherwise no byte, and 0.
-pub fn optional(bytes: &[u8], from: usize, stands: bool, number: u8, low: u8, high: u8) -> Field
+pub fn optional(bytes: &[u8], from: usize, stands: bool, number: u8, least: u8, most: u8) -> Field
     requires { ⌜ 0 < number ⌝ }
-    ensures { λ r. ⌜ GivesField (ifStands stands (within number low high)) (now (bytes .entry)) from r ⌝ }
+    ensures { λ r. ⌜ GivesField (ifStands stands (within number least most)) (now (bytes .entry)) from r ⌝ }
 {
     if stands {
-        byte_within(bytes, from, number, low, high)
+        byte_within(bytes, from, number, least, most)
     } else {
         Field {
             refusal: 0,
@@ -63,17 +63,25 @@ pub fn optional(bytes: &[u8], from: usize, stands: bool, number: u8, low: u8, hi
     }
 }
 
-// A rate or a price, where bit 0 of the map stands.
-pub fn amount(bytes: &[u8], from: usize, map: u8) -> Field
-    ensures { λ r. ⌜ GivesField (amount map) (now (bytes .entry)) from r ⌝ }
+// A byte of a rate or price where its bit stands; otherwise no byte, and 0.
+pub fn amount_byte(bytes: &[u8], from: usize, stands: bool) -> Field
+    ensures { λ r. ⌜ GivesField (ifStands stands anyByte) (now (bytes .entry)) from r ⌝ }
 {
-    if map % 2 == 0 {
-        return Field {
+    if stands {
+        any_byte(bytes, from)
+    } else {
+        Field {
             refusal: 0,
             next: from,
             value: 0,
-        };
+        }
     }
+}
+
+// Any byte.
+fn any_byte(bytes: &[u8], from: usize) -> Field
+    ensures { λ r. ⌜ GivesField anyByte (now (bytes .entry)) from r ⌝ }
+{
     if bytes.len() <= from {
         return Field {
             refusal: NO_BYTE_LEFT,
@@ -89,7 +97,7 @@ pub fn amount(bytes: &[u8], from: usize, map: u8) -> Field
 }
 
 // Numbers below this one have bits for the first so many timers alone.
-pub fn names(timers: u8) -> u8
+fn names(timers: u8) -> u8
     requires { ⌜ timers ≤ 3 ⌝ }
     ensures { λ r. ⌜ r ≡ 2 ^ timers ⌝ }
 {
@@ -97,11 +105,11 @@ pub fn names(timers: u8) -> u8
 }
 
 // A bit map, none of whose bits is for an absent timer.
-pub fn bit_map(bytes: &[u8], from: usize, high: u8, timers: u8) -> Field
+pub fn bit_map(bytes: &[u8], from: usize, timers: u8) -> Field
     requires { ⌜ timers ≤ 3 ⌝ }
-    ensures { λ r. ⌜ GivesField (bitMap high timers) (now (bytes .entry)) from r ⌝ }
+    ensures { λ r. ⌜ GivesField (bitMap timers) (now (bytes .entry)) from r ⌝ }
 {
-    let map = byte_within(bytes, from, ABSENT_TIMER, 0, high);
+    let map = any_byte(bytes, from);
     if map.refusal != 0 {
         return map;
     }
@@ -122,4 +130,30 @@ pub fn bit_map(bytes: &[u8], from: usize, high: u8, timers: u8) -> Field
         };
     }
     map
+}
+
+// A reset byte where its bit stands: but for bit 7, each of its bits is for a timer that is there.
+pub fn reset_byte(bytes: &[u8], from: usize, stands: bool, timers: u8) -> Field
+    requires { ⌜ timers ≤ 3 ⌝ }
+    ensures { λ r. ⌜ GivesField (ifStands stands (resetByte timers)) (now (bytes .entry)) from r ⌝ }
+{
+    if !stands {
+        return Field {
+            refusal: 0,
+            next: from,
+            value: 0,
+        };
+    }
+    let b = any_byte(bytes, from);
+    if b.refusal != 0 {
+        return b;
+    }
+    if names(timers) <= b.value % 128 {
+        return Field {
+            refusal: ABSENT_TIMER,
+            next: from,
+            value: 0,
+        };
+    }
+    b
 }

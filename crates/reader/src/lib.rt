@@ -13,6 +13,9 @@ mod start;
 // Conditions of a mode or a move: two for each of three timers.
 pub const CONDITIONS: usize = 6;
 
+// The bytes of the longest table.
+pub const LONGEST: usize = 919;
+
 // The refusals of document 01 by their numbers.
 pub const NO_BYTE_LEFT: u8 = 1;
 

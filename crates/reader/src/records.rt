@@ -2,21 +2,22 @@
 ghost use mathlib.Core.Path.{_≡_};
 ghost use mathlib.Core.List.{map};
 ghost use Prim.Native.Nat.{_+_, _*_, _<_, _≤_};
-ghost use lib.ListN.{length, replicate};
+ghost use lib.ListN.{length, drop, set, replicate};
 ghost use Rattle.reader.specs.Parser.{inOrder};
-ghost use Rattle.reader.specs.Format.{within, conditions, modeRecord, moveRecord};
+ghost use Rattle.reader.specs.Format.{within, amountByte, conditions, modeRecord, moveRecord};
 ghost use Rattle.table.specs.Held.{flat, modeBytes, moveBytes};
-ghost use Rattle.reader.specs.Step.{Wrote, Reads, Copied, Copies, WritesHeader, Contains, priced, ends, resets, endBytes, resetBytes};
-use crate::ABSENT_TIMER;
+ghost use Rattle.reader.specs.Step.{Gives, Wrote, Reads, Copied, Copies, WritesHeader, WrotePriced, WroteResets, Contains, priced, ends, resets, endBytes};
+ghost use Rattle.reader.specs.Parser.{run};
 use crate::BAD_CODE;
 use crate::CONDITIONS;
 use crate::NO_SUCH_MODE;
 use crate::OUT_OF_RANGE;
-use crate::fields::amount;
+use crate::fields::Field;
+use crate::fields::amount_byte;
 use crate::fields::bit_map;
 use crate::fields::byte_within;
-use crate::fields::names;
 use crate::fields::optional;
+use crate::fields::reset_byte;
 use table::CEILINGS;
 use table::GOAL;
 use table::HIGH;
@@ -39,12 +40,12 @@ pub struct Next {
     pub next: usize,
 }
 
-// A byte from low to high that stands in the table where it stands in the bytes: gives a refusal's number or 0.
-fn copied(bytes: &[u8], at: usize, low: u8, high: u8, table: &mut [u8; TABLE]) -> u8
+// A byte from least to most that stands in the table where it stands in the bytes: gives a refusal's number or 0.
+fn copied(bytes: &[u8], at: usize, least: u8, most: u8, table: &mut [u8; TABLE]) -> u8
     requires { ⌜ at < 904 ⌝ }
-    ensures { λ r. ⌜ Copies (now (bytes .entry)) low high at r (Copied low high (now (table .entry)) at (now (table .exit))) ⌝ }
+    ensures { λ r. ⌜ Copies (now (bytes .entry)) least most at r (Copied least most (now (table .entry)) at (now (table .exit))) ⌝ }
 {
-    let b = byte_within(bytes, at, OUT_OF_RANGE, low, high);
+    let b = byte_within(bytes, at, OUT_OF_RANGE, least, most);
     table[at] = b.value;
     b.refusal
 }
@@ -110,36 +111,53 @@ fn conditions(bytes: &[u8], from: usize, map: u8, table: &mut [u8; TABLE], at: u
     Next { refusal: 0, next }
 }
 
-// A rate or a price, its high byte 0, and the conditions behind it.
+// The low byte of a rate or price, 0 in the high byte's place, and the conditions.
 fn priced(bytes: &[u8], from: usize, map: u8, table: &mut [u8; TABLE], at: usize) -> Next
     requires { ⌜ at + 8 ≤ 904 ⌝ }
-    ensures { λ r. ⌜ Reads (priced map) (now (bytes .entry)) from r (λ a. Wrote 8 (now (table .entry)) at (now (table .exit)) (modeBytes a)) ⌝ }
+    ensures { λ r. ⌜ Reads (priced map) (now (bytes .entry)) from r (WrotePriced (now (table .entry)) at (now (table .exit))) ⌝ }
 {
-    let a = amount(bytes, from, map);
-    if a.refusal != 0 {
+    let low = amount_byte(bytes, from, map % 2 == 1);
+    if low.refusal != 0 {
         return Next {
-            refusal: a.refusal,
+            refusal: low.refusal,
             next: from,
         };
     }
-    table[at] = a.value;
+    table[at] = low.value;
     table[at + HIGH] = 0;
-    conditions(bytes, a.next, map, table, at + INVARIANT)
+    conditions(bytes, low.next, map, table, at + INVARIANT)
 }
 
-// A mode record.
+// The high byte of a rate or price, the last field of its record, where bit 7 of the byte that announces it stands.
+fn high_byte(bytes: &[u8], from: usize, announcing: u8, table: &mut [u8; TABLE], at: usize) -> Next
+    requires { ⌜ at < 904 ⌝ }
+    ensures { λ r. ⌜ Reads (amountByte announcing 7) (now (bytes .entry)) from r (λ b. now (table .exit) ≡ set (now (table .entry)) at b) ⌝ }
+{
+    let high = amount_byte(bytes, from, (announcing >> 7) % 2 == 1);
+    table[at] = high.value;
+    Next {
+        refusal: high.refusal,
+        next: high.next,
+    }
+}
+
+// A mode record, whose map announces the high byte.
 fn mode_record(bytes: &[u8], from: usize, timers: u8, table: &mut [u8; TABLE], at: usize) -> Next
     requires { ⌜ (timers ≤ 3) × (at + 8 ≤ 904) ⌝ }
     ensures { λ r. ⌜ Reads (modeRecord timers) (now (bytes .entry)) from r (λ a. Wrote 8 (now (table .entry)) at (now (table .exit)) (modeBytes a)) ⌝ }
 {
-    let map = bit_map(bytes, from, 127, timers);
+    let map = bit_map(bytes, from, timers);
     if map.refusal != 0 {
         return Next {
             refusal: map.refusal,
             next: from,
         };
     }
-    priced(bytes, map.next, map.value, table, at)
+    let p = priced(bytes, map.next, map.value, table, at);
+    if p.refusal != 0 {
+        return p;
+    }
+    high_byte(bytes, p.next, map.value, table, at + HIGH)
 }
 
 // The from mode and the to mode of a move.
@@ -163,7 +181,7 @@ fn ends(bytes: &[u8], from: usize, modes: u8, table: &mut [u8; TABLE], at: usize
     }
 }
 
-// The byte of the resets where bit 7 stands, and the 0 behind it.
+// The reset byte where bit 7 of the map stands: its bits for timers, and the 0 behind them, are written.
 fn resets(
     bytes: &[u8],
     from: usize,
@@ -171,21 +189,20 @@ fn resets(
     timers: u8,
     table: &mut [u8; TABLE],
     at: usize,
-) -> Next
+) -> Field
     requires { ⌜ (timers ≤ 3) × (at + 2 ≤ 904) ⌝ }
-    ensures { λ r. ⌜ Reads (resets map timers) (now (bytes .entry)) from r (λ a. Wrote 2 (now (table .entry)) at (now (table .exit)) (resetBytes a)) ⌝ }
+    ensures { λ r. ⌜
+        Gives (now (bytes .entry)) (r .refusal) (r .next) (WroteResets (r .value) (now (table .entry)) at (now (table .exit)))
+        (run (resets map timers) (drop from (now (bytes .entry))))
+        ⌝ }
 {
-    let stands = (map >> 7) % 2 == 1;
-    let b = optional(bytes, from, stands, ABSENT_TIMER, 0, names(timers) - 1);
-    table[at] = b.value;
+    let b = reset_byte(bytes, from, (map >> 7) % 2 == 1, timers);
+    table[at] = b.value % 8;
     table[at + 1] = 0;
-    Next {
-        refusal: b.refusal,
-        next: b.next,
-    }
+    b
 }
 
-// A move record.
+// A move record, whose reset byte announces the high byte.
 fn move_record(
     bytes: &[u8],
     from: usize,
@@ -197,7 +214,7 @@ fn move_record(
     requires { ⌜ (0 < modes) × (timers ≤ 3) × (at + 12 ≤ 904) ⌝ }
     ensures { λ r. ⌜ Reads (moveRecord modes timers) (now (bytes .entry)) from r (λ a. Wrote 12 (now (table .entry)) at (now (table .exit)) (moveBytes a)) ⌝ }
 {
-    let map = bit_map(bytes, from, 255, timers);
+    let map = bit_map(bytes, from, timers);
     if map.refusal != 0 {
         return Next {
             refusal: map.refusal,
@@ -212,7 +229,14 @@ fn move_record(
     if p.refusal != 0 {
         return p;
     }
-    resets(bytes, p.next, map.value, timers, table, at + RESETS)
+    let r = resets(bytes, p.next, map.value, timers, table, at + RESETS);
+    if r.refusal != 0 {
+        return Next {
+            refusal: r.refusal,
+            next: from,
+        };
+    }
+    high_byte(bytes, r.next, r.value, table, at + PRICE + HIGH)
 }
 
 // The mode records, one after another. The unit's core multiplies in 32 bits.

@@ -2,10 +2,11 @@
 -- Assumes nothing.
 use mathlib.Core.Path.{_≡_, refl, sym, ap, _∙_}
 use mathlib.Core.List.{List, _++_}
-use Prim.Native.Nat.{ℕ, _≤_}
+use Prim.Native.Nat.{ℕ, _+_, _≤_}
 use native.Mathlib.Omega.{arith}
 use lib.ListN.{length, replicate}
 use lib.Seq.{take-at}
+use Rattle.reader.specs.Format.{longest}
 use Rattle.reader.specs.Read.{Judgement, read}
 use Rattle.reader.specs.Theorems.Longer.{longer-same}
 use Rattle.route.specs.Plan.{Outcome, judged, planned}
@@ -26,9 +27,9 @@ lentRoute = replicate 256 0
 unfoldable pub printed : List ℕ → List ℕ
 printed bytes = shown (planned bytes lentWords lentRoute)
 
--- "The longest table has 839 bytes": with one more, whatever stands behind them changes nothing.
+-- "the longest table has 919 bytes": with one more, whatever stands behind them changes nothing.
 abbrev pub kept : ℕ
-kept = 840
+kept = longest + 1
 
 pub printed-kept : (bytes rest : List ℕ) → kept ≤ length bytes → printed bytes ≡ printed (bytes ++ rest)
 unfolding printed planned

@@ -81,7 +81,7 @@ module _ {t rs : List ℕ} {s : Space} {ws₀ bs₀ : List ℕ} (w : WalkReady t
   steps-few = omega (arith, nodes-are, least-steps (cornerGraph a l) (graph-closed a l proper) (startOf t) start-inside (w .best) best-least)
 
   -- And its charge is far below infinity.
-  pub charge-few : w .best .charge + 65535 < infinity
+  pub charge-few : w .best .charge + mostPrice < infinity
   charge-few =
       let most =
       least-charge (cornerGraph a l) (graph-closed a l proper) (startOf t) start-inside (w .best) best-least mostPrice

@@ -9,6 +9,8 @@ pub mod Refusals
 pub mod Refused
 -- The outcome of the definitions keeps demands 2 and 3.
 pub mod Keeps
+-- What a charge is at most.
+pub mod Charge
 -- What the contracts of the private functions mean.
 pub mod Walk
 pub mod Found

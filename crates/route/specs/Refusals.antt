@@ -40,8 +40,8 @@ pub data Later (f : Fields) (left : List ℕ) (words room : ℕ) : ℕ → Type 
 pub data Line (bytes : List ℕ) (words room : ℕ) : ℕ → Type 0 where
   -- "Bytes are judged from the left, each before the next is sought": 1 to 5 are said of a byte, so the parser is their definition. It has 1,
   -- "a byte is needed and none is left", in reader/specs/Parser, and in Format beside the test of each field 2, "a count, goal or ceiling
-  -- outside its range"; 3, "a map or reset bit for an absent timer, or bit 7 in a mode, or reset bits 3 to 7"; 4, "condition code not 1 to 5";
-  -- and 5, "from or to not below m".
+  -- outside its range"; 3, "a map or reset bit for an absent timer, or bit 7 in a mode, or reset bits 3 to 7", of which it "no longer covers"
+  -- either bit 7; 4, "condition code not 1 to 5"; and 5, "from or to not below m".
   at-byte : {n : ℕ} → run table bytes ≡ refused n → Line bytes words room n
   behind : {n : ℕ} (f : Fields) (left : List ℕ) → Begins bytes f left → Later f left words room n → Line bytes words room n
 

@@ -8,6 +8,7 @@ use Rattle.semantics.specs.Graph.Path.{WeightsWithin, infinity, chargeAt, steps
 use Rattle.semantics.specs.Paths.Loops.{path-charge}
 use Rattle.semantics.specs.Paths.Turned.{turned-nodes, turned-closed, turned-light}
 use Rattle.semantics.specs.Graph.Near.{turned}
+use Rattle.table.specs.Fields.{mostPrice}
 use Rattle.queue.specs.Queue.{lows}
 use Rattle.search.specs.Exploring.{Rooted, InHand, hand-inside, hand-entry}
 
@@ -15,8 +16,8 @@ module _ {r : Rooted} {nodes u : ℕ} {ws : List ℕ} (h : InHand r nodes u ws) 
   hand-steps : stepsAt (lows nodes ws) u < nodes
   hand-steps = omega (arith, h .sized, h .settling .costs .few u _ (hand-inside h) (hand-entry h))
 
-  -- With prices of at most 16 bits.
-  pub hand-room : (w weight : ℕ) → WeightsWithin (r .graph) w → w ≤ 65535 → weight ≤ w → weight + chargeAt (lows nodes ws) u < infinity
+  -- With prices that a table may have.
+  pub hand-room : (w weight : ℕ) → WeightsWithin (r .graph) w → w ≤ mostPrice → weight ≤ w → weight + chargeAt (lows nodes ws) u < infinity
   hand-room w weight light small within =
       let g = r .graph in
       let s = r .start in

@@ -17,6 +17,7 @@ use Rattle.semantics.specs.Answers.Places.{IsPlace}
 use Rattle.semantics.specs.Answers.Moving.{movedTo, moved-place}
 use Rattle.semantics.specs.Answers.Marks.{Led}
 use Rattle.semantics.specs.Answers.Led.{led-move, moved-number}
+use Rattle.table.specs.Fields.{mostPrice}
 use Rattle.table.specs.Held.{automatonOf}
 use Rattle.table.specs.Theorems.Access.{price-within}
 use Rattle.regions.specs.declared.nodes.NodeRegion.{NodeRegion}
@@ -87,7 +88,7 @@ module _ {t : List ℕ} {s : Space} {x : NodeRegion} {z : Stand} {ws : List ℕ}
       pub along-few : image % 65536 + target * s .block < 65536
       along-few = omega (arith, inside 0 (omega arith), w .ready .setting .few)
 
-      small : moveAt (automatonOf t) e .price ≤ 65535
+      small : moveAt (automatonOf t) e .price ≤ mostPrice
       small = omega (arith, price-within t (w .ready .setting .is-table) e there)
 
       -- To which corners it leads.

@@ -22,6 +22,7 @@ use Rattle.semantics.specs.Answers.Places.{IsPlace, corner-top}
 use Rattle.semantics.specs.Answers.Waiting.{delayedTo, delay-comes, after, after-same, after-step}
 use Rattle.semantics.specs.Answers.Marks.{Grows, Led}
 use Rattle.semantics.specs.Answers.LedWaits.{delayed-number, lingered-number, led-delay, led-linger, led-idle}
+use Rattle.table.specs.Fields.{mostPrice}
 use Rattle.table.specs.Held.{automatonOf}
 use Rattle.table.specs.Theorems.Access.{rate-within}
 use Rattle.regions.specs.declared.Region.{Region}
@@ -47,7 +48,7 @@ module _ {t : List ℕ} {s : Space} {x : NodeRegion} {z : Stand} {ws : List ℕ}
   abbrev next : PricedRegion
   next = delayedTo (placeAt x) .region
 
-  rate-small : rateAt (automatonOf t) (placeAt x) ≤ 65535
+  rate-small : rateAt (automatonOf t) (placeAt x) ≤ mostPrice
   rate-small = omega (arith, rate-within t (w .ready .setting .is-table) (x .mode) (w .here .corner .place .in-modes))
 
   -- A delay is allowed only if the region after it meets the conditions and the ceilings.
@@ -75,7 +76,7 @@ module _ {t : List ℕ} {s : Space} {x : NodeRegion} {z : Stand} {ws : List ℕ}
     weight : ℕ → ℕ
     weight i = cond (ltb (top (view (x .region))) i) (rateAt (automatonOf t) (placeAt x)) 0
 
-    small : (i : ℕ) → weight i ≤ 65535
+    small : (i : ℕ) → weight i ≤ mostPrice
     unfolding weight
     small i = weight-small (ltb (top (view (x .region))) i) (rateAt a p) rate-small
 

@@ -10,6 +10,7 @@ use native.Mathlib.Omega.{arith}
 use lib.Dec.{ltb}
 use lib.ListN.{getD}
 use Rattle.semantics.specs.Region.{PricedRegion, top}
+use Rattle.table.specs.Fields.{mostPrice}
 use Rattle.table.specs.Held.{pad}
 use Rattle.steps.specs.declared.Stand.{Stand}
 use Rattle.steps.specs.Steps.{Marked}
@@ -105,6 +106,6 @@ module _ {z : Stand} {ws : List ℕ} {to : ℕ} (prices : List ℕ) (k rate : �
       led-alike (λ j w i d. (omega (arith, d .0), d .1 ∙ same i, d .2)) (λ j w i _ d. (omega (arith, d .0), d .1 ∙ sym (same i), d .2))
 
 -- What a delay weighs is within a bound of the rate.
-pub weight-small : (b : Bool) (rate : ℕ) → rate ≤ 65535 → cond b rate 0 ≤ 65535
+pub weight-small : (b : Bool) (rate : ℕ) → rate ≤ mostPrice → cond b rate 0 ≤ mostPrice
 weight-small true rate h = h
 weight-small false rate h = omega arith

@@ -18,6 +18,7 @@ use Rattle.semantics.specs.Graph.CornerGraph.{numberOf}
 use Rattle.semantics.specs.Answers.Places.{IsPlace, corner-top}
 use Rattle.semantics.specs.Answers.Marks.{Grows, Led}
 use Rattle.semantics.specs.Answers.Led.{grows-iff}
+use Rattle.table.specs.Fields.{mostPrice}
 use Rattle.table.specs.Held.{automatonOf}
 use Rattle.rules.specs.Rules.{IsRules}
 use Rattle.regions.specs.declared.nodes.NodeRegion.{NodeRegion}
@@ -89,7 +90,7 @@ module _ {t : List ℕ} {s : Space} {x : NodeRegion} {z : Stand} {ws : List ℕ}
 
   -- An edge from a marked corner is tight by the words just if it is by the table of which they tell.
   pub tight-grows :
-      (d : ℕ → Entry) → Tells s z ws d → (j : ℕ) → Marked (z .set) j → (weight : ℕ) → weight ≤ 65535 → (v : ℕ) → v < s .nodes
+      (d : ℕ → Entry) → Tells s z ws d → (j : ℕ) → Marked (z .set) j → (weight : ℕ) → weight ≤ mostPrice → (v : ℕ) → v < s .nodes
       → TightAt ws (z .first + j) v weight (z .steps + 1) ↔ Grows d (z .steps) weight (numberOf (automatonOf t) (placeAt x) j) v
   tight-grows d tells j m weight small v there =
       let c = chargeAt ws (z .first + j) in

@@ -13,6 +13,7 @@ use Rattle.semantics.specs.Region.{PricedRegion, top}
 use Rattle.semantics.specs.Chain.{Place, step}
 use Rattle.semantics.specs.Graph.Path.{Entry, infinity, chargeAt, stepsAt}
 use Rattle.semantics.specs.Answers.Marks.{Led}
+use Rattle.table.specs.Fields.{mostPrice}
 use Rattle.table.specs.Held.{automatonOf, IsTable}
 use Rattle.rules.specs.Rules.{none, IsRules}
 use Rattle.regions.specs.declared.Region.{Region}
@@ -48,7 +49,7 @@ LedTo z ws to j weight i = Marked (z .set) j × TightAt ws (z .first + j) (to + 
 pub record CornersReady (z : Stand) (ws : List ℕ) : Type 0 where
   pub sixteen : z .set < 16
   pub there : (j : ℕ) → Marked (z .set) j → 2 * (z .first + j) + 1 < length ws
-  pub room : (j : ℕ) → Marked (z .set) j → chargeAt ws (z .first + j) + 65535 < infinity
+  pub room : (j : ℕ) → Marked (z .set) j → chargeAt ws (z .first + j) + mostPrice < infinity
   pub short : z .steps < 65536
 
 pub record LeadReady (ws : List ℕ) (set j to i weight : ℕ) : Type 0 where
@@ -56,7 +57,7 @@ pub record LeadReady (ws : List ℕ) (set j to i weight : ℕ) : Type 0 where
   pub from-few : j < 32
   pub to-few : i < 4
   pub there : 2 * (to + i) + 1 < length ws
-  pub small : weight ≤ 65535
+  pub small : weight ≤ mostPrice
 
 -- The edges of a step by their corners and weights: `E j weight i` for one of that weight from corner j to corner i of the place whose corner 0
 -- is the node `to`. The set r has the corners to which those lead that are tight and come from marked corners.
@@ -71,7 +72,7 @@ MoveEdges map price m j weight i = (j < m) × (i ≡ cornerOf map j) × (weight 
 pub record LedMoveReady (z : Stand) (ws : List ℕ) (map to price : ℕ) : Type 0 where
   pub corners : CornersReady z ws
   pub there : (j : ℕ) → j < 4 → 2 * (to + cornerOf map j) + 1 < length ws
-  pub small : price ≤ 65535
+  pub small : price ≤ mostPrice
 
 -- Those of a delay: the region after it has prices by which each corner comes from the one whose index is its price, at the rate if the region
 -- before it, with the corners 0 to k, has none of that index.
@@ -83,7 +84,7 @@ pub record LedDelayReady (z : Stand) (ws : List ℕ) (delayed : Region) (to rate
   pub valid : Valid delayed
   pub comes : (i : ℕ) → i ≤ top (view delayed) → getD (view delayed .prices) i 0 < 32
   pub there : 2 * (to + top (view delayed)) + 1 < length ws
-  pub small : rate ≤ 65535
+  pub small : rate ≤ mostPrice
 
 -- The struct is of the place at which the walk stands.
 pub record AtStand (t : List ℕ) (z : Stand) (x : NodeRegion) : Type 0 where

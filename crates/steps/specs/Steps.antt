@@ -12,6 +12,7 @@ use Rattle.semantics.specs.Chain.{Place, step}
 use Rattle.semantics.specs.Graph.Path.{Entry, reached, infinity, chargeAt, stepsAt}
 use Rattle.semantics.specs.Graph.CornerGraph.{numberOf}
 use Rattle.semantics.specs.Answers.Marks.{Led}
+use Rattle.table.specs.Fields.{mostPrice}
 use Rattle.table.specs.Held.{automatonOf}
 use Rattle.space.specs.declared.Space.{Space}
 use Rattle.steps.specs.declared.Stand.{Stand}
@@ -40,7 +41,7 @@ pub record StandReady (t rs : List ℕ) (s : Space) (z : Stand) (ws : List ℕ) 
   pub first-is : numberOf (automatonOf t) (standPlace t z) 0 ≡ z .first
   pub corners : (j : ℕ) → Marked (z .set) j → j ≤ top (standPlace t z .region)
   pub sixteen : z .set < 16
-  pub room : (j : ℕ) → Marked (z .set) j → chargeAt ws (z .first + j) + 65535 < infinity
+  pub room : (j : ℕ) → Marked (z .set) j → chargeAt ws (z .first + j) + mostPrice < infinity
   pub short : z .steps < 65536
   pub below : z .byte ≤ 66
   pub table : ℕ → Entry

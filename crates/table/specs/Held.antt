@@ -1,12 +1,12 @@
 -- How the bytes of a table that was read hold its fields: 904 bytes at fixed offsets.
 -- Assumes nothing.
-use Prim.Native.Nat.{ℕ, zero, suc, _+_, _*_, _-_, _/_, _%_, _≤_}
+use Prim.Native.Nat.{ℕ, zero, suc, _-_, _/_, _%_, _≤_}
 use mathlib.Core.Path.{_≡_}
 use mathlib.Core.List.{List, [], _∷_, _++_, map, List·Memᴰ}
 use lib.ListN.{length, getD, take, drop, replicate}
 use Rattle.semantics.specs.Automata.Proper.{Proper}
 use Rattle.semantics.specs.Automaton.{Automaton}
-use Rattle.table.specs.Fields.{mostPrice, ModeFields, MoveFields, Fields}
+use Rattle.table.specs.Fields.{amountOf, mostPrice, ModeFields, MoveFields, Fields}
 use Rattle.table.specs.Meaning.{automaton}
 
 -- An array of n entries: the list, and 0 behind it.
@@ -35,13 +35,13 @@ held f =
 
 -- The record with which the bytes begin.
 abbrev pub modeFrom : List ℕ → ModeFields
-modeFrom t = record { rate = getD t 0 0 + 256 * getD t 1 0; conditions = take 6 (drop 2 t) }
+modeFrom t = record { rate = amountOf (getD t 0 0) (getD t 1 0); conditions = take 6 (drop 2 t) }
 
 abbrev pub moveFrom : List ℕ → MoveFields
 moveFrom t = record {
   source = getD t 0 0;
   target = getD t 1 0;
-  price = getD t 2 0 + 256 * getD t 3 0;
+  price = amountOf (getD t 2 0) (getD t 3 0);
   conditions = take 6 (drop 4 t);
   resets = getD t 10 0;
 }

@@ -28,7 +28,7 @@ pub record HeaderLayout (bytes : List ℕ) (h : Header) : Type 0 where
   pub goal : h .goal < h .modes
 
 abbrev Between : ℕ → ℕ → List ℕ → ℕ → Type 0
-Between low high = One (λ b. (low ≤ b) × (b ≤ high))
+Between least most = One (λ b. (least ≤ b) × (b ≤ most))
 
 abbrev HeaderParts : List ℕ → Header → Type 0
 HeaderParts =

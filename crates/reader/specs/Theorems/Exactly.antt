@@ -3,14 +3,14 @@
 use Prim.Native.Nat.{ℕ, zero, suc, _≤_}
 use native.Mathlib.Omega.{arith}
 use mathlib.Core.Path.{_≡_, refl, sym, ap, _∙_}
-use mathlib.Core.Bool.{Bool, true, false, cond, _&&_, true≢false}
+use mathlib.Core.Bool.{Bool, true, false, cond, true≢false}
 use mathlib.Core.List.{List, [], _∷_, _++_, append-nil}
 use borrow.Author.Tests.{le-leb, leb-true}
 use lib.Dec.{leb}
 use lib.ListN.{length}
 use Rattle.semantics.specs.Regions.Compare.{and-true-iff}
 use Rattle.reader.specs.Parser.{Parser, done, refuse, byte, _>>=_, inOrder, Outcome, refused, took, run}
-use Rattle.reader.specs.Format.{within, anyByte, ifStands}
+use Rattle.reader.specs.Format.{anyByte, tested, between, within, ifStands}
 use Rattle.reader.specs.Layout.{Optional, present, absent, InRow, none, more}
 use Rattle.reader.specs.Theorems.Running.{run-bind, andThen, parts, took-same, took-rest}
 
@@ -97,9 +97,6 @@ made {p = p} g E = record {
 pub finished : {A : Type 0} (v : A) → Exactly (done v) (λ xs a. (xs ≡ []) × (v ≡ a))
 finished v = record { lays = λ xs a e. let f : xs ≡ [] = cc in let g : v ≡ a = cc in (f, g); takes = λ xs a k. rw (k .0, k .1) }
 
-pub false-true : false ≡ true → _≡_ {A = ℕ} 0 1
-false-true e = cc
-
 -- The same relation in other words.
 pub reworded : {A : Type 0} {p : Parser A} {R S : List ℕ → A → Type 0} → ((xs : List ℕ) (a : A) → R xs a → S xs a) → ((xs : List ℕ) (a : A) → S xs a → R xs a) →
     Exactly p R → Exactly p S
@@ -110,37 +107,29 @@ abbrev pub One : (ℕ → Type 0) → List ℕ → ℕ → Type 0
 One Good xs b = (xs ≡ b ∷ []) × Good b
 
 -- A byte that is taken if a test passes.
-module _ (test : ℕ → Bool) (number : ℕ) where
-  tested-lays : (xs : List ℕ) (a : ℕ) → run (byte (λ b. cond (test b) (done b) (refuse number))) xs ≡ took a [] → One (λ b. test b ≡ true) xs a
+module _ (passes : ℕ → Bool) (number : ℕ) where
+  tested-lays : (xs : List ℕ) (a : ℕ) → run (tested passes number) xs ≡ took a [] → One (λ b. passes b ≡ true) xs a
   tested-lays [] a e = absurd (true≢false cc)
-  tested-lays (b ∷ xs) a e = go (test b) refl e
+  tested-lays (b ∷ xs) a e = go (passes b) refl e
     where
-      go : (t : Bool) → test b ≡ t → run (cond t (done b) (refuse number)) xs ≡ took a [] → One (λ b. test b ≡ true) (b ∷ xs) a
+      go : (t : Bool) → passes b ≡ t → run (cond t (done b) (refuse number)) xs ≡ took a [] → One (λ b. passes b ≡ true) (b ∷ xs) a
       go true f e = let g : b ≡ a = cc in let h : xs ≡ [] = cc in (rw (g, h), rw (← g) f)
       go false f e = absurd (true≢false cc)
 
-  tested-takes : (xs : List ℕ) (a : ℕ) → One (λ b. test b ≡ true) xs a → run (byte (λ b. cond (test b) (done b) (refuse number))) xs ≡ took a []
-  tested-takes xs a k = ap (run (byte (λ b. cond (test b) (done b) (refuse number)))) (k .0) ∙ ap (λ (t : Bool). run (cond t (done a) (refuse number)) []) (k .1)
+  tested-takes : (xs : List ℕ) (a : ℕ) → One (λ b. passes b ≡ true) xs a → run (tested passes number) xs ≡ took a []
+  tested-takes xs a k = ap (run (tested passes number)) (k .0) ∙ ap (λ (t : Bool). run (cond t (done a) (refuse number)) []) (k .1)
 
-  pub tested : Exactly (byte (λ b. cond (test b) (done b) (refuse number))) (One (λ b. test b ≡ true))
-  tested = record { lays = tested-lays; takes = tested-takes }
+  pub tested-exactly : Exactly (tested passes number) (One (λ b. passes b ≡ true))
+  tested-exactly = record { lays = tested-lays; takes = tested-takes }
 
--- A parser that goes on only if a test passes.
-pub guarded : (t : Bool) (v number : ℕ) → Exactly (cond t (done v) (refuse number)) (λ xs a. (xs ≡ []) × (v ≡ a) × (t ≡ true))
-guarded true v number = record { lays = λ xs a e. let f : xs ≡ [] = cc in let g : v ≡ a = cc in (f, g, refl); takes = λ xs a k. rw (k .0, k .1) }
-guarded false v number = record {
-  lays = λ xs a e. absurd (true≢false cc);
-  takes = λ xs a k. let z : _≡_ {A = ℕ} 0 1 = false-true (k .2) in absurd (omega arith);
-}
-
-pub within-exactly : (number low high : ℕ) → Exactly (within number low high) (One (λ b. (low ≤ b) × (b ≤ high)))
+pub within-exactly : (number least most : ℕ) → Exactly (within number least most) (One (λ b. (least ≤ b) × (b ≤ most)))
 unfolding within
-within-exactly number low high =
-    reworded (λ xs a k. (k .0, let c = and-true-iff (leb low a) (leb a high) .0 (k .1) in (leb-true low a (c .0), leb-true a high (c .1))))
-    (λ xs a k. (k .0, rw (le-leb low a (k .1 .0), le-leb a high (k .1 .1)))) (tested (λ b. leb low b && leb b high) number)
+within-exactly number least most =
+    reworded (λ xs a k. (k .0, let c = and-true-iff (leb least a) (leb a most) .0 (k .1) in (leb-true least a (c .0), leb-true a most (c .1))))
+    (λ xs a k. (k .0, rw (le-leb least a (k .1 .0), le-leb a most (k .1 .1)))) (tested-exactly (between least most) number)
 
 pub any-exactly : Exactly anyByte (One (λ b. Unit {0}))
-any-exactly = reworded (λ xs a k. (k .0, tt)) (λ xs a k. (k .0, refl)) (tested (λ b. true) 0)
+any-exactly = reworded (λ xs a k. (k .0, tt)) (λ xs a k. (k .0, refl)) (tested-exactly (λ b. true) 0)
 
 -- A field where its bit stands.
 pub optional-exactly : {p : Parser ℕ} {Good : ℕ → Type 0} → Exactly p (One Good) → (t : Bool) → Exactly (ifStands t p) (Optional Good t)

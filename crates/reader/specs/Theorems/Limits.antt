@@ -1,4 +1,4 @@
--- A table has at most 839 bytes, and its prices and rates are at most 255.
+-- A table has at most 919 bytes, and its prices and rates are at most 65,535.
 -- Assumes nothing.
 use Prim.Native.Nat.{ℕ, suc, _*_, _≤_, _<_}
 use native.Mathlib.Nat.{suc-mul}
@@ -9,6 +9,7 @@ use mathlib.Core.Bool.{Bool}
 use mathlib.Core.List.{List, [], _∷_, _++_, List·Memᴰ, List·Memᴰ·cases-cons, List·Memᴰ·not-nil}
 use lib.ListN.{length, getD, length-append}
 use Rattle.table.specs.Fields.{mostPrice, ModeFields, MoveFields, Fields}
+use Rattle.reader.specs.Format.{longest}
 use Rattle.reader.specs.Layout.{Optional, present, absent, InRow, none, more, ModeLayout, MoveLayout, Layout}
 use Rattle.reader.specs.Read.{accepted, read}
 use Rattle.reader.specs.Theorems.Accepts.{accepts}
@@ -25,67 +26,92 @@ row-short k h i xs l none = omega arith
 row-short k h i xs l (more {xs = front} {ys = back} {a = a} {l = rest} r t) =
     omega (arith, length-append front back, h i front a r, row-short k h (suc i) back rest t, suc-mul (length rest) k)
 
-mode-short : (n : ℕ) (xs : List ℕ) (f : ModeFields) → ModeLayout n xs f → length xs ≤ 8
+mode-short : (n : ℕ) (xs : List ℕ) (f : ModeFields) → ModeLayout n xs f → length xs ≤ 9
 mode-short n xs f k =
     omega (
       arith,
       ap length (k .split),
-      length-append (k .rate-bytes) (k .condition-bytes),
-      optional-short (k .rate-bytes) (f .rate) (k .rate),
+      length-append (k .low-bytes) (k .condition-bytes ++ k .high-bytes),
+      length-append (k .condition-bytes) (k .high-bytes),
+      optional-short (k .low-bytes) (k .low) (k .has-low),
       row-short 1 (λ i. optional-short) 1 (k .condition-bytes) (f .conditions) (k .conditions .row),
       k .conditions .six,
+      optional-short (k .high-bytes) (k .high) (k .has-high),
     )
 
-move-short : (m n : ℕ) (xs : List ℕ) (f : MoveFields) → MoveLayout m n xs f → length xs ≤ 11
+move-short : (m n : ℕ) (xs : List ℕ) (f : MoveFields) → MoveLayout m n xs f → length xs ≤ 12
 move-short m n xs f k =
     omega (
       arith,
       ap length (k .split),
-      length-append (k .price-bytes) (k .condition-bytes ++ k .reset-bytes),
-      length-append (k .condition-bytes) (k .reset-bytes),
-      optional-short (k .price-bytes) (f .price) (k .price),
+      length-append (k .low-bytes) (k .condition-bytes ++ (k .reset-bytes ++ k .high-bytes)),
+      length-append (k .condition-bytes) (k .reset-bytes ++ k .high-bytes),
+      length-append (k .reset-bytes) (k .high-bytes),
+      optional-short (k .low-bytes) (k .low) (k .has-low),
       row-short 1 (λ i. optional-short) 1 (k .condition-bytes) (f .conditions) (k .conditions .row),
       k .conditions .six,
-      optional-short (k .reset-bytes) (f .resets) (k .resets),
+      optional-short (k .reset-bytes) (k .reset) (k .has-reset),
+      optional-short (k .high-bytes) (k .high) (k .has-high),
     )
 
--- "The longest table has 839 bytes."
-pub layout-short : (bytes : List ℕ) (f : Fields) → Layout bytes f → length bytes ≤ 839
+-- "the longest table has 919 bytes".
+pub layout-short : (bytes : List ℕ) (f : Fields) → Layout bytes f → length bytes ≤ longest
 layout-short bytes f k =
     omega (
       arith,
       ap length (k .split),
       length-append (f .ceilings) (k .mode-bytes ++ k .move-bytes),
       length-append (k .mode-bytes) (k .move-bytes),
-      row-short 8 (λ i. mode-short (length (f .ceilings))) 0 (k .mode-bytes) (f .modes) (k .modes),
-      row-short 11 (λ i. move-short (length (f .modes)) (length (f .ceilings))) 0 (k .move-bytes) (f .moves) (k .moves),
+      row-short 9 (λ i. mode-short (length (f .ceilings))) 0 (k .mode-bytes) (f .modes) (k .modes),
+      row-short 12 (λ i. move-short (length (f .modes)) (length (f .ceilings))) 0 (k .move-bytes) (f .moves) (k .moves),
       k .modes-range,
       k .timers-range,
       k .moves-range,
     )
 
-pub accepted-short : (bytes : List ℕ) (f : Fields) → read bytes ≡ accepted f → length bytes ≤ 839
+pub accepted-short : (bytes : List ℕ) (f : Fields) → read bytes ≡ accepted f → length bytes ≤ longest
 accepted-short bytes f e = layout-short bytes f (accepts bytes f .0 e .0)
 
 abbrev Bytes : List ℕ → Type 0
 Bytes = AllIn (λ b. b < 256)
 
-optional-bound : {Good : ℕ → Type 0} {t : Bool} (xs : List ℕ) (b : ℕ) → Bytes xs → Optional Good t xs b → b ≤ mostPrice
-optional-bound xs b h (present g) = omega (arith, h b (List·Memᴰ.List·Memᴰ·head refl))
-optional-bound xs b h absent = omega arith
+optional-byte : {Good : ℕ → Type 0} {t : Bool} (xs : List ℕ) (b : ℕ) → Bytes xs → Optional Good t xs b → b < 256
+optional-byte xs b h (present g) = h b (List·Memᴰ.List·Memᴰ·head refl)
+optional-byte xs b h absent = omega arith
+
+-- The first part of some bytes, and the others.
+bytes-front : (xs ys : List ℕ) → Bytes (xs ++ ys) → Bytes xs
+bytes-front xs ys h b m = h b (mem-front b xs ys m)
+
+bytes-back : (xs ys : List ℕ) → Bytes (xs ++ ys) → Bytes ys
+bytes-back xs ys h b m = h b (mem-back b xs ys m)
 
 mode-bound : (n : ℕ) (xs : List ℕ) (f : ModeFields) → Bytes xs → ModeLayout n xs f → f .rate ≤ mostPrice
 mode-bound n xs f h k =
-    optional-bound (k .rate-bytes) (f .rate)
-    (λ b m. h b (rw (k .split) (List·Memᴰ.List·Memᴰ·tail (mem-front b (k .rate-bytes) (k .condition-bytes) m)))) (k .rate)
+    let behind = k .condition-bytes ++ k .high-bytes in
+    let all : Bytes (k .low-bytes ++ behind) = λ b m. h b (rw (k .split) (List·Memᴰ.List·Memᴰ·tail m)) in
+    omega (
+      arith,
+      k .rate,
+      optional-byte (k .low-bytes) (k .low) (bytes-front (k .low-bytes) behind all) (k .has-low),
+      optional-byte (k .high-bytes) (k .high) (bytes-back (k .condition-bytes) (k .high-bytes) (bytes-back (k .low-bytes) behind all)) (k .has-high),
+    )
 
 move-bound : (m n : ℕ) (xs : List ℕ) (f : MoveFields) → Bytes xs → MoveLayout m n xs f → f .price ≤ mostPrice
 move-bound m n xs f h k =
-    optional-bound (k .price-bytes) (f .price)
-    (λ b q. h b (rw (k .split) (List·Memᴰ.List·Memᴰ·tail (List·Memᴰ.List·Memᴰ·tail (List·Memᴰ.List·Memᴰ·tail
-    (mem-front b (k .price-bytes) (k .condition-bytes ++ k .reset-bytes) q)))))) (k .price)
+    let last = k .reset-bytes ++ k .high-bytes in
+    let behind = k .condition-bytes ++ last in
+    let all : Bytes (k .low-bytes ++ behind) =
+    λ b q. h b (rw (k .split) (List·Memᴰ.List·Memᴰ·tail (List·Memᴰ.List·Memᴰ·tail (List·Memᴰ.List·Memᴰ·tail q)))) in
+    omega (
+      arith,
+      k .price,
+      optional-byte (k .low-bytes) (k .low) (bytes-front (k .low-bytes) behind all) (k .has-low),
+      optional-byte (k .high-bytes) (k .high)
+          (bytes-back (k .reset-bytes) (k .high-bytes) (bytes-back (k .condition-bytes) last (bytes-back (k .low-bytes) behind all))) (k .has-high),
+    )
 
--- Rates and prices are at most 255.
+-- Rates and prices are at most 65,535.
 pub record Bounded (f : Fields) : Type 0 where
   pub rates : (m : ModeFields) → List·Memᴰ m (f .modes) → m .rate ≤ mostPrice
   pub prices : (e : MoveFields) → List·Memᴰ e (f .moves) → e .price ≤ mostPrice

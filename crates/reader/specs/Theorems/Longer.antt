@@ -1,6 +1,6 @@
--- Bytes behind the first 840 do not matter: the parser takes at most 839, and of those that are left only counts whether there are any.
+-- Bytes behind the first 920 do not matter: the parser takes at most 919, and of those that are left only counts whether there are any.
 -- Assumes nothing.
-use Prim.Native.Nat.{ℕ, zero, suc, _+_, _*_, _-_, _/_, _%_, _^_, _≤_, _<_}
+use Prim.Native.Nat.{ℕ, zero, suc, _+_, _*_, _-_, _≤_, _<_}
 use native.Mathlib.Nat.{suc-mul}
 use native.Mathlib.Omega.{arith}
 use mathlib.Core.Path.{_≡_, refl}
@@ -13,7 +13,7 @@ use Rattle.semantics.specs.Regions.Compare.{and-true-iff}
 use Rattle.reader.specs.Parser.{Parser, done, refuse, byte, _>>=_, inOrder, Outcome, refused, took, run}
 use Rattle.table.specs.Fields.{Fields}
 use Rattle.table.specs.Meaning.{stands}
-use Rattle.reader.specs.Format.{within, anyByte, ifStands, present, bitMap, amount, conditions, modeRecord, moveRecord, Header, header, table}
+use Rattle.reader.specs.Format.{longest, anyByte, tested, between, within, ifStands, mapPresent, bitMap, amountByte, conditions, resetPresent, resetByte, modeRecord, moveRecord, Header, header, table}
 use Rattle.reader.specs.Read.{judge, read}
 
 -- The parser takes at most d bytes, and the values that it gives are good.
@@ -52,54 +52,60 @@ takes-test : (Good : ℕ → Type 0) (t : Bool) (v n d : ℕ) → (t ≡ true �
 takes-test Good true v n d g = g refl
 takes-test Good false v n d g = tt
 
-takes-within : (n low high : ℕ) → Takes (λ b. b ≤ high) (within n low high) 1
+takes-within : (n least most : ℕ) → Takes (λ b. b ≤ most) (within n least most) 1
 unfolding within
-takes-within n low high = (
+takes-within n least most = (
   omega arith,
-  λ b. takes-test (λ b. b ≤ high) (leb low b && leb b high) b n (1 - 1) (λ e. leb-true b high (and-true-iff (leb low b) (leb b high) .0 e .1)),
+  λ b. takes-test (λ b. b ≤ most) (leb least b && leb b most) b n (1 - 1) (λ e. leb-true b most (and-true-iff (leb least b) (leb b most) .0 e .1)),
 )
 
-takes-byte : (n low high : ℕ) → Takes Any (within n low high) 1
+takes-tested : (passes : ℕ → Bool) (n : ℕ) → Takes Any (tested passes n) 1
+takes-tested passes n = (omega arith, λ b. takes-test Any (passes b) b n (1 - 1) (λ e. tt))
+
+takes-byte : (n least most : ℕ) → Takes Any (within n least most) 1
 unfolding within
-takes-byte n low high = (omega arith, λ b. takes-test Any (leb low b && leb b high) b n (1 - 1) (λ e. tt))
+takes-byte n least most = takes-tested (between least most) n
 
 takes-optional : (t : Bool) (p : Parser ℕ) → Takes Any p 1 → Takes Any (ifStands t p) 1
 takes-optional true p h = h
 takes-optional false p h = tt
 
-takes-map : (high n : ℕ) → Takes Any (bitMap high n) 1
+takes-map : (n : ℕ) → Takes Any (bitMap n) 1
 unfolding bitMap
-takes-map high n =
-    takes-both Any Any (within 3 0 high) _ 1 0 1 (omega arith) (takes-byte 3 0 high)
-    (λ b u. takes-test Any (present n (b / 2 % 8) && present n (b / 16 % 8)) b 3 0 (λ e. tt))
+takes-map n = takes-tested (mapPresent n) 3
 
-takes-amount : (map : ℕ) → Takes Any (amount map) 1
-unfolding amount
-takes-amount map = takes-optional (stands map 0) anyByte (omega arith, λ b. tt)
+takes-reset : (n : ℕ) → Takes Any (resetByte n) 1
+unfolding resetByte
+takes-reset n = takes-tested (resetPresent n) 3
+
+takes-amount : (announcing bit : ℕ) → Takes Any (amountByte announcing bit) 1
+unfolding amountByte
+takes-amount announcing bit = takes-optional (stands announcing bit) anyByte (omega arith, λ b. tt)
 
 takes-conditions : (map : ℕ) → Takes Any (conditions map) 6
 unfolding conditions
 takes-conditions map = takes-order _ 1 (λ i. takes-optional (stands map i) (within 4 16 95) (takes-byte 4 16 95)) 1 6
 
 -- The records.
-takes-mode : (n : ℕ) → Takes Any (modeRecord n) 8
+takes-mode : (n : ℕ) → Takes Any (modeRecord n) 9
 unfolding modeRecord
 takes-mode n =
-    takes-both Any Any (bitMap 127 n) _ 1 7 8 (omega arith) (takes-map 127 n) (λ map u.
-    takes-both Any Any (amount map) _ 1 6 7 (omega arith) (takes-amount map) (λ rate u.
-    takes-both Any Any (conditions map) _ 6 0 6 (omega arith) (takes-conditions map) (λ cs u. tt)))
+    takes-both Any Any (bitMap n) _ 1 8 9 (omega arith) (takes-map n) (λ map u.
+    takes-both Any Any (amountByte map 0) _ 1 7 8 (omega arith) (takes-amount map 0) (λ low u.
+    takes-both Any Any (conditions map) _ 6 1 7 (omega arith) (takes-conditions map) (λ cs u.
+    takes-both Any Any (amountByte map 7) _ 1 0 1 (omega arith) (takes-amount map 7) (λ high u. tt))))
 
-takes-move : (m n : ℕ) → Takes Any (moveRecord m n) 11
+takes-move : (m n : ℕ) → Takes Any (moveRecord m n) 12
 unfolding moveRecord
 takes-move m n =
     let named = takes-byte 5 0 (m - 1) in
-    takes-both Any Any (bitMap 255 n) _ 1 10 11 (omega arith) (takes-map 255 n) (λ map u.
-    takes-both Any Any (within 5 0 (m - 1)) _ 1 9 10 (omega arith) named (λ source u.
-    takes-both Any Any (within 5 0 (m - 1)) _ 1 8 9 (omega arith) named (λ target u.
-    takes-both Any Any (amount map) _ 1 7 8 (omega arith) (takes-amount map) (λ price u.
-    takes-both Any Any (conditions map) _ 6 1 7 (omega arith) (takes-conditions map) (λ cs u.
-    takes-both Any Any (ifStands (stands map 7) (within 3 0 (2 ^ n - 1))) _ 1 0 1 (omega arith)
-    (takes-optional (stands map 7) (within 3 0 (2 ^ n - 1)) (takes-byte 3 0 (2 ^ n - 1))) (λ resets u. tt))))))
+    takes-both Any Any (bitMap n) _ 1 11 12 (omega arith) (takes-map n) (λ map u.
+    takes-both Any Any (within 5 0 (m - 1)) _ 1 10 11 (omega arith) named (λ source u.
+    takes-both Any Any (within 5 0 (m - 1)) _ 1 9 10 (omega arith) named (λ target u.
+    takes-both Any Any (amountByte map 0) _ 1 8 9 (omega arith) (takes-amount map 0) (λ low u.
+    takes-both Any Any (conditions map) _ 6 2 8 (omega arith) (takes-conditions map) (λ cs u.
+    takes-both Any Any (ifStands (stands map 7) (resetByte n)) _ 1 1 2 (omega arith) (takes-optional (stands map 7) (resetByte n) (takes-reset n)) (λ reset u.
+    takes-both Any Any (amountByte reset 7) _ 1 0 1 (omega arith) (takes-amount reset 7) (λ high u. tt)))))))
 
 -- The counts are in their ranges.
 record Counts (h : Header) : Type 0 where
@@ -116,17 +122,17 @@ takes-header =
     takes-both Any Counts (within 2 0 (m - 1)) _ 1 0 1 (omega arith) (takes-byte 2 0 (m - 1)) (λ goal u.
     record { modes = a; timers = b; moves = c }))))
 
--- "The longest table has 839 bytes."
-takes-table : Takes Any table 839
+-- "the longest table has 919 bytes".
+takes-table : Takes Any table longest
 unfolding table
 takes-table =
-    takes-both Counts Any header _ 4 835 839 (omega arith) takes-header (λ h c.
-    takes-both Any Any (inOrder (λ i. within 2 1 15) 0 (h .timers)) _ (h .timers * 1) 832 835 (omega (arith, c .timers))
+    takes-both Counts Any header _ 4 915 longest (omega arith) takes-header (λ h c.
+    takes-both Any Any (inOrder (λ i. within 2 1 15) 0 (h .timers)) _ (h .timers * 1) 912 915 (omega (arith, c .timers))
     (takes-order _ 1 (λ i. takes-byte 2 1 15) 0 (h .timers)) (λ cs u.
-    takes-both Any Any (inOrder (λ i. modeRecord (h .timers)) 0 (h .modes)) _ (h .modes * 8) 704 832 (omega (arith, c .modes))
-    (takes-order _ 8 (λ i. takes-mode (h .timers)) 0 (h .modes)) (λ ms u.
-    takes-both Any Any (inOrder (λ i. moveRecord (h .modes) (h .timers)) 0 (h .moves)) _ (h .moves * 11) 0 704 (omega (arith, c .moves))
-    (takes-order _ 11 (λ i. takes-move (h .modes) (h .timers)) 0 (h .moves)) (λ es u. tt))))
+    takes-both Any Any (inOrder (λ i. modeRecord (h .timers)) 0 (h .modes)) _ (h .modes * 9) 768 912 (omega (arith, c .modes))
+    (takes-order _ 9 (λ i. takes-mode (h .timers)) 0 (h .modes)) (λ ms u.
+    takes-both Any Any (inOrder (λ i. moveRecord (h .modes) (h .timers)) 0 (h .moves)) _ (h .moves * 12) 0 768 (omega (arith, c .moves))
+    (takes-order _ 12 (λ i. takes-move (h .modes) (h .timers)) 0 (h .moves)) (λ es u. tt))))
 
 -- The same refusal; or the same value, and bytes left over in both or in none.
 data Alike {A : Type 0} : Outcome A → Outcome A → Type 0 where
@@ -146,7 +152,7 @@ judge-alike o r same = refl
 judge-alike o r (left n []) = refl
 judge-alike o r (left n (b ∷ rest)) = refl
 
-pub longer-same : (bytes : List ℕ) (n : ℕ) → 839 < n → read (take n bytes) ≡ read bytes
+pub longer-same : (bytes : List ℕ) (n : ℕ) → longest < n → read (take n bytes) ≡ read bytes
 unfolding read
 longer-same bytes zero h = absurd (omega arith)
-longer-same bytes (suc n) h = judge-alike (run table (take (suc n) bytes)) (run table bytes) (run-alike table 839 n takes-table (omega arith) bytes)
+longer-same bytes (suc n) h = judge-alike (run table (take (suc n) bytes)) (run table bytes) (run-alike table longest n takes-table (omega arith) bytes)

@@ -1,7 +1,7 @@
 -- The automaton of a table is proper: whatever it names is there.
 -- Assumes nothing.
 use Prim.Native.Nat.{ℕ, suc, _+_, _-_, _/_, _%_, _^_, _≤_, _<_}
-use native.Mathlib.Nat.{zero-add, zero-div}
+use native.Mathlib.Nat.{zero-add, zero-div, div-one}
 use native.Mathlib.Decide.{decLt}
 use native.Mathlib.Omega.{arith}
 use mathlib.Core.Path.{_≡_, refl, sym, ap, _∙_}
@@ -19,6 +19,7 @@ use Rattle.reader.specs.Layout.{Optional, present, absent, InRow, none, 
 use Rattle.reader.specs.Read.{accepted, read}
 use Rattle.reader.specs.Theorems.Accepts.{accepts}
 use Rattle.table.specs.Theorems.Access.{map-all}
+use Rattle.reader.specs.Theorems.Bits.{there-below, below-there}
 use Rattle.reader.specs.Theorems.Rows.{row-all}
 
 -- A condition that is there has its bit.
@@ -74,6 +75,13 @@ resets-there : {n b : ℕ} {t : Bool} (xs : List ℕ) → Optional (IsReset n) t
 resets-there xs (present g) = g .there
 resets-there xs absent = λ x h e. absurd (no-bit (0 + x) e)
 
+-- Bits 0 to 2 name the timers that the whole byte names.
+three-there : (n b : ℕ) → 1 ≤ n → n ≤ 3 → TimersThere n 0 b → TimersThere n 0 (b % 8)
+three-there n b some few h =
+    let same : b % 8 ≡ b % 8 % 8 = omega arith in
+    let below : b % 8 < 2 ^ n = rw (div-one b) at (there-below n 0 b some few h) in
+    below-there n 0 (b % 8) some few (rw (div-one (b % 8), ← same) below)
+
 one-of-three : (x : ℕ) → List·Memᴰ x (0 ∷ 1 ∷ 2 ∷ []) → x < 3
 one-of-three x m = elim (List·Memᴰ·cases-cons m) [
   | inl e ↦ omega arith
@@ -106,7 +114,9 @@ layout-proper bytes f k s =
           moves-all f k (λ e. OnTimers n (e .conditions))
           (λ i xs a r. conditions-on n (r .map) (r .condition-bytes) (a .conditions) (r .first) (r .further) (r .conditions));
       resets-on =
-          moves-all f k (λ e. (x : ℕ) → List·Memᴰ x (e .resets) → x < n) (λ i xs a r. resets-on n (a .resets) (resets-there (r .reset-bytes) (r .resets)));
+          moves-all f k (λ e. (x : ℕ) → List·Memᴰ x (e .resets) → x < n)
+          (λ i xs a r. rw (← r .resets)
+          (resets-on n (r .reset % 8) (three-there n (r .reset) (k .timers-range .0) (k .timers-range .1) (resets-there (r .reset-bytes) (r .has-reset)))));
       source-there = moves-all f k (λ e. e .source < length (map modeOf (f .modes))) (λ i xs a r. omega (arith, r .source));
       target-there = moves-all f k (λ e. e .target < length (map modeOf (f .modes))) (λ i xs a r. omega (arith, r .target));
       start-holds = s;

@@ -1,16 +1,15 @@
 -- Bytes are rejected by a number from 1 to 7 and by no other.
 -- Assumes nothing.
-use Prim.Native.Nat.{ℕ, zero, suc, _-_, _/_, _%_, _^_, _≤_}
+use Prim.Native.Nat.{ℕ, zero, suc, _-_, _≤_}
 use native.Mathlib.Omega.{arith}
 use mathlib.Core.Path.{_≡_, refl}
-use mathlib.Core.Bool.{Bool, true, false, cond, _&&_, true≢false}
+use mathlib.Core.Bool.{Bool, true, false, cond, true≢false}
 use mathlib.Core.List.{List, [], _∷_}
-use lib.Dec.{leb}
 use Rattle.semantics.specs.Automaton.{startHolds}
 use Rattle.reader.specs.Parser.{Parser, done, refuse, byte, _>>=_, inOrder, Outcome, refused, took, run}
 use Rattle.table.specs.Fields.{Fields}
 use Rattle.table.specs.Meaning.{stands, automaton}
-use Rattle.reader.specs.Format.{within, anyByte, ifStands, present, bitMap, amount, conditions, modeRecord, moveRecord, header, table}
+use Rattle.reader.specs.Format.{anyByte, tested, between, within, ifStands, mapPresent, bitMap, amountByte, conditions, resetPresent, resetByte, modeRecord, moveRecord, header, table}
 use Rattle.reader.specs.Read.{accepted, rejected, judge, read}
 
 -- Every refusal of the parser has a number from 1 to 5.
@@ -39,21 +38,28 @@ cond-refuses : (t : Bool) (v n : ℕ) → (1 ≤ n) × (n ≤ 5) → Refuses (co
 cond-refuses true v n h = tt
 cond-refuses false v n h = h
 
-within-refuses : (n low high : ℕ) → (1 ≤ n) × (n ≤ 5) → Refuses (within n low high)
+tested-refuses : (passes : ℕ → Bool) (n : ℕ) → (1 ≤ n) × (n ≤ 5) → Refuses (tested passes n)
+tested-refuses passes n h = λ b. cond-refuses (passes b) b n h
+
+within-refuses : (n least most : ℕ) → (1 ≤ n) × (n ≤ 5) → Refuses (within n least most)
 unfolding within
-within-refuses n low high h = λ b. cond-refuses (leb low b && leb b high) b n h
+within-refuses n least most h = tested-refuses (between least most) n h
 
 if-refuses : (t : Bool) (p : Parser ℕ) → Refuses p → Refuses (ifStands t p)
 if-refuses true p h = h
 if-refuses false p h = tt
 
-map-refuses : (high n : ℕ) → Refuses (bitMap high n)
+map-refuses : (n : ℕ) → Refuses (bitMap n)
 unfolding bitMap
-map-refuses high n = then-refuses (within 3 0 high) _ (within-refuses 3 0 high (omega arith)) (λ b. cond-refuses (present n (b / 2 % 8) && present n (b / 16 % 8)) b 3 (omega arith))
+map-refuses n = tested-refuses (mapPresent n) 3 (omega arith)
 
-amount-refuses : (map : ℕ) → Refuses (amount map)
-unfolding amount
-amount-refuses map = if-refuses (stands map 0) anyByte (λ b. tt)
+reset-refuses : (n : ℕ) → Refuses (resetByte n)
+unfolding resetByte
+reset-refuses n = tested-refuses (resetPresent n) 3 (omega arith)
+
+amount-refuses : (announcing bit : ℕ) → Refuses (amountByte announcing bit)
+unfolding amountByte
+amount-refuses announcing bit = if-refuses (stands announcing bit) anyByte (λ b. tt)
 
 conditions-refuse : (map : ℕ) → Refuses (conditions map)
 unfolding conditions
@@ -62,18 +68,18 @@ conditions-refuse map = order-refuses _ (λ i. if-refuses (stands map i) (within
 mode-refuses : (n : ℕ) → Refuses (modeRecord n)
 unfolding modeRecord
 mode-refuses n =
-    then-refuses (bitMap 127 n) _ (map-refuses 127 n) (λ map.
-    then-refuses (amount map) _ (amount-refuses map) (λ rate. then-refuses (conditions map) _ (conditions-refuse map) (λ cs. tt)))
+    then-refuses (bitMap n) _ (map-refuses n) (λ map. then-refuses (amountByte map 0) _ (amount-refuses map 0) (λ low.
+    then-refuses (conditions map) _ (conditions-refuse map) (λ cs. then-refuses (amountByte map 7) _ (amount-refuses map 7) (λ high. tt))))
 
 move-refuses : (m n : ℕ) → Refuses (moveRecord m n)
 unfolding moveRecord
 move-refuses m n =
     let named = within-refuses 5 0 (m - 1) (omega arith) in
-    then-refuses (bitMap 255 n) _ (map-refuses 255 n) (λ map. then-refuses (within 5 0 (m - 1)) _ named (λ source.
-    then-refuses (within 5 0 (m - 1)) _ named (λ target. then-refuses (amount map) _ (amount-refuses map) (λ price.
+    then-refuses (bitMap n) _ (map-refuses n) (λ map. then-refuses (within 5 0 (m - 1)) _ named (λ source.
+    then-refuses (within 5 0 (m - 1)) _ named (λ target. then-refuses (amountByte map 0) _ (amount-refuses map 0) (λ low.
     then-refuses (conditions map) _ (conditions-refuse map) (λ cs.
-    then-refuses (ifStands (stands map 7) (within 3 0 (2 ^ n - 1))) _
-    (if-refuses (stands map 7) (within 3 0 (2 ^ n - 1)) (within-refuses 3 0 (2 ^ n - 1) (omega arith))) (λ resets. tt))))))
+    then-refuses (ifStands (stands map 7) (resetByte n)) _ (if-refuses (stands map 7) (resetByte n) (reset-refuses n)) (λ reset.
+    then-refuses (amountByte reset 7) _ (amount-refuses reset 7) (λ high. tt)))))))
 
 header-refuses : Refuses header
 unfolding header

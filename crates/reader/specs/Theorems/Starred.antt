@@ -22,7 +22,7 @@ use Rattle.semantics.specs.Corners.Number.{sameList-eq}
 use Rattle.semantics.specs.Answers.Computed.{computed, computed-answer}
 use Rattle.reader.specs.Parser.{inOrder}
 use Rattle.table.specs.Fields.{Fields}
-use Rattle.reader.specs.Format.{within as byteWithin, bitMap, amount, conditions, modeRecord, moveRecord, header, table}
+use Rattle.reader.specs.Format.{within as byteWithin, bitMap, amountByte, conditions, resetByte, modeRecord, moveRecord, header, table}
 use Rattle.table.specs.Meaning.{automaton}
 use Rattle.reader.specs.Read.{Judgement, accepted, rejected, read}
 use Rattle.reader.specs.Theorems.Proper.{accepted-proper}
@@ -86,7 +86,7 @@ allPass [] = true
 allPass (s ∷ ss) = passes s && allPass ss
 
 starred-pass : allPass starred ≡ true
-unfolding starred read table header modeRecord moveRecord conditions amount bitMap byteWithin inOrder computed distances completes cornerGraph nodeCount nodeNumber nodeAt cornerNumber cornerAt step moveStep delayStep lingerStep start leave arrive delay linger reset resetAll charge meets within edges resetAllCorner
+unfolding starred read table header modeRecord moveRecord resetByte conditions amountByte bitMap byteWithin inOrder computed distances completes cornerGraph nodeCount nodeNumber nodeAt cornerNumber cornerAt step moveStep delayStep lingerStep start leave arrive delay linger reset resetAll charge meets within edges resetAllCorner
 starred-pass = refl
 
 same-answer : (x y : Answer) → sameAnswer x y ≡ true → x ≡ y

@@ -16,7 +16,7 @@ use Rattle.semantics.specs.Corners.Lists.{mem-getD}
 use Rattle.semantics.specs.Regions.Lists.{replicate-zero}
 use Rattle.table.specs.Fields.{mostPrice, MoveFields, Fields}
 use Rattle.table.specs.Meaning.{conditionsFrom, modeOf, moveOf, automaton}
-use Rattle.table.specs.Held.{pad, held, modeFrom, moveFrom, recordsFrom, fieldsOf, automatonOf, modeFieldsAt, moveFieldsAt, IsTable}
+use Rattle.table.specs.Held.{pad, held, modeFrom, moveFrom, recordsFrom, fieldsOf, automatonOf, modeFieldsAt, moveFieldsAt, InRange, IsTable}
 use Rattle.table.specs.Theorems.Holding.{range-shaped, held-length}
 
 -- What f gives of every element, every element of the mapped list has.
@@ -88,6 +88,13 @@ module _ (t : List ℕ) where
       ap (λ (m : Mode). holdAtZero (m .conditions)) (mode-at 0 h)
       ∙ ap (λ (l : List ℕ). holdAtZero (conditionsFrom 0 (take 6 l))) (drop-drop 2 8 t)
 
+-- Prices and rates are within the bound.
+pub range-within : (f : Fields) → InRange f → PricesWithin (automaton f) mostPrice
+range-within f h = record {
+  rates = map-all modeOf (λ o. o .rate ≤ mostPrice) (f .modes) (h .rates-range);
+  prices = map-all moveOf (λ e. e .price ≤ mostPrice) (f .moves) (h .prices-range);
+}
+
 module _ (t : List ℕ) (h : IsTable t) where
   pub table-proper : Proper (automatonOf t)
   table-proper = h .range .proper
@@ -138,12 +145,8 @@ module _ (t : List ℕ) (h : IsTable t) where
   ceilings-held =
       ap (λ (u : List ℕ). getD u 4 0 ∷ getD u 5 0 ∷ getD u 6 0 ∷ []) (h .holds) ∙ first-three (fieldsOf t .ceilings) _ (h .range .timers-range .1)
 
-  -- Prices and rates are within the bound.
   pub amounts-within : PricesWithin (automatonOf t) mostPrice
-  amounts-within = record {
-    rates = map-all modeOf (λ o. o .rate ≤ mostPrice) (fieldsOf t .modes) (h .range .rates-range);
-    prices = map-all moveOf (λ e. e .price ≤ mostPrice) (fieldsOf t .moves) (h .range .prices-range);
-  }
+  amounts-within = range-within (fieldsOf t) (h .range)
 
   -- A byte and two bytes of a record that begins at k.
   byte-at : (k j : ℕ) → getD (drop k t) j 0 ≡ getD t (k + j) 0

@@ -1,11 +1,12 @@
 -- `reader::records::move_record` meets its contract. Assumes nothing.
 use Prim.Native.Nat.{_-_}
+use native.Mathlib.Omega.{arith}
 use borrow.Author.Needs.{needs}
 use lib.ListN.{drop}
-use Rattle.reader.specs.Format.{within, bitMap, amount, conditions, moveRecord}
+use Rattle.reader.specs.Format.{within, bitMap, amountByte, conditions, moveRecord}
 use Rattle.reader.specs.Step.{resets}
-use Rattle.reader.proofs.Giving.{part-refused, part-known, part-last, two-refused, two-taken}
-use Rattle.reader.proofs.Writing.{wrote-then}
+use Rattle.reader.proofs.Giving.{part-refused, part-known, part-taken, part-last, two-refused, two-taken}
+use Rattle.reader.proofs.Writing.{wrote-move}
 use Rattle.reader.proofs.records.move_record.Statement.{statement}
 use Rattle.reader.proofs.records.move_record.Tie as tie
 
@@ -16,7 +17,7 @@ returns : tie.Need-returns
 unfolding moveRecord
 returns c =
     let a = c .before .before .before .before .args in
-    part-refused (bitMap 255 (a .timers)) _ (drop (a .from) (a .bytes .now)) (c .if1 .taken) (c .before .before .bit-map .ensures)
+    part-refused (bitMap (a .timers)) _ (drop (a .from) (a .bytes .now)) (c .if1 .taken) (c .before .before .bit-map .ensures)
 
 ends-requires : tie.Need-ends-requires
 ends-requires c κs = search needs
@@ -27,7 +28,7 @@ returns-2 c =
     let one = c .before .before .before .before in
     let a = one .before .before .before .before .args in
     let map = one .before .before .bit-map in
-    part-known (bitMap 255 (a .timers)) _ (drop (a .from) (a .bytes .now)) (one .if1 .left) (map .ensures)
+    part-known (bitMap (a .timers)) _ (drop (a .from) (a .bytes .now)) (one .if1 .left) (map .ensures)
     (two-refused (within 5 0 (a .modes - 1)) (λ s. within 5 0 (a .modes - 1)) (λ s t. (s, t)) _ (drop (map .result .next) (a .bytes .now)) (c .if2 .taken)
     (c .before .before .ends .ensures))
 
@@ -45,10 +46,10 @@ returns-3 c =
     let a = one .before .before .before .before .args in
     let map = one .before .before .bit-map in
     let ends = two .before .before .ends in
-    part-known (bitMap 255 (a .timers)) _ (drop (a .from) (a .bytes .now)) (one .if1 .left) (map .ensures)
+    part-known (bitMap (a .timers)) _ (drop (a .from) (a .bytes .now)) (one .if1 .left) (map .ensures)
     (two-taken (within 5 0 (a .modes - 1)) (λ s. within 5 0 (a .modes - 1)) (λ s t. (s, t)) _ (drop (map .result .next) (a .bytes .now)) (two .if2 .left)
     (ends .ensures) (λ s t w.
-    two-refused (amount (map .result .value)) (λ p. conditions (map .result .value)) (λ p cs. record { rate = p; conditions = cs }) _
+    two-refused (amountByte (map .result .value) 0) (λ low. conditions (map .result .value)) (λ low cs. (low, cs)) _
     (drop (ends .result .next) (a .bytes .now)) (c .if3 .taken) (c .before .before .priced .ensures)))
 
 add-resets : tie.Need-add-resets
@@ -60,20 +61,60 @@ resets-requires c κs = search needs
 returns-4 : tie.Need-returns-4
 unfolding moveRecord
 returns-4 c =
-    let three = c .before .before in
+    let three = c .before .before .before .before in
     let two = three .before .before .before .before in
     let one = two .before .before .before .before in
     let a = one .before .before .before .before .args in
     let map = one .before .before .bit-map in
     let ends = two .before .before .ends in
     let price = three .before .before .priced in
-    part-known (bitMap 255 (a .timers)) _ (drop (a .from) (a .bytes .now)) (one .if1 .left) (map .ensures)
+    part-known (bitMap (a .timers)) _ (drop (a .from) (a .bytes .now)) (one .if1 .left) (map .ensures)
     (two-taken (within 5 0 (a .modes - 1)) (λ s. within 5 0 (a .modes - 1)) (λ s t. (s, t)) _ (drop (map .result .next) (a .bytes .now)) (two .if2 .left)
     (ends .ensures) (λ s t v.
-    two-taken (amount (map .result .value)) (λ p. conditions (map .result .value)) (λ p cs. record { rate = p; conditions = cs }) _
-    (drop (ends .result .next) (a .bytes .now)) (three .if3 .left) (price .ensures) (λ p cs w.
-    part-last (resets (map .result .value) (a .timers)) _ (drop (price .result .next) (a .bytes .now)) (c .resets .ensures)
-    (λ b q u. wrote-then (wrote-then v w) u))))
+    two-taken (amountByte (map .result .value) 0) (λ low. conditions (map .result .value)) (λ low cs. (low, cs)) _
+    (drop (ends .result .next) (a .bytes .now)) (three .if3 .left) (price .ensures) (λ low cs w.
+    part-refused (resets (map .result .value) (a .timers)) _ (drop (price .result .next) (a .bytes .now)) (c .if4 .taken)
+    (c .before .before .resets .ensures))))
+
+add-high-byte : tie.Need-add-high-byte
+add-high-byte c =
+    let three = c .before .before .before .before .before in
+    let one = three .before .before .before .before .before .before .before .before in
+    omega (arith, one .before .before .before .before .pre)
+
+add-high-byte-2 : tie.Need-add-high-byte-2
+add-high-byte-2 c =
+    let three = c .before .before .before .before .before in
+    let one = three .before .before .before .before .before .before .before .before in
+    omega (arith, one .before .before .before .before .pre)
+
+high-byte-requires : tie.Need-high-byte-requires
+high-byte-requires c κs =
+    let three = c .before .before .before .before .before in
+    let one = three .before .before .before .before .before .before .before .before in
+    omega (arith, one .before .before .before .before .pre)
+
+returns-5 : tie.Need-returns-5
+unfolding moveRecord
+returns-5 c =
+    let four = c .before .before in
+    let three = four .before .before .before .before in
+    let two = three .before .before .before .before in
+    let one = two .before .before .before .before in
+    let a = one .before .before .before .before .args in
+    let map = one .before .before .bit-map in
+    let ends = two .before .before .ends in
+    let price = three .before .before .priced in
+    let reset = four .before .before .resets in
+    part-known (bitMap (a .timers)) _ (drop (a .from) (a .bytes .now)) (one .if1 .left) (map .ensures)
+    (two-taken (within 5 0 (a .modes - 1)) (λ s. within 5 0 (a .modes - 1)) (λ s t. (s, t)) _ (drop (map .result .next) (a .bytes .now)) (two .if2 .left)
+    (ends .ensures) (λ s t v.
+    two-taken (amountByte (map .result .value) 0) (λ low. conditions (map .result .value)) (λ low cs. (low, cs)) _
+    (drop (ends .result .next) (a .bytes .now)) (three .if3 .left) (price .ensures) (λ low cs w.
+    part-taken (resets (map .result .value) (a .timers)) _ (drop (price .result .next) (a .bytes .now)) (four .if4 .left) (reset .ensures) (λ b q u.
+    rw (← u .value)
+    (part-last (amountByte (reset .result .value) 7) _ (drop (reset .result .next) (a .bytes .now)) (c .high-byte .ensures)
+    (λ high k e. rw (u .value) (wrote-move high v w u e)))))))
 
 pub move-record-spec : {M : Type 1} → statement M
 move-record-spec =
@@ -88,4 +129,8 @@ move-record-spec =
     returns-3
     add-resets
     resets-requires
-    returns-4)
+    returns-4
+    add-high-byte
+    add-high-byte-2
+    high-byte-requires
+    returns-5)

@@ -1,20 +1,22 @@
 -- `reader::records::priced` meets its contract. Assumes nothing.
+use mathlib.Core.Path.{refl}
 use borrow.Author.Needs.{needs}
 use lib.ListN.{drop}
 use native.Mathlib.Omega.{arith}
-use Rattle.reader.specs.Format.{amount, conditions}
-use Rattle.reader.proofs.Giving.{part-refused, part-known, part-last}
-use Rattle.reader.proofs.Writing.{wrote-amount, wrote-then}
+use Rattle.reader.specs.Format.{amountByte, conditions}
+use Rattle.reader.proofs.Giving.{gives-same, part-refused, part-known, part-last, low-same}
+use Rattle.reader.proofs.Writing.{wrote-two, wrote-then}
 use Rattle.reader.proofs.records.priced.Statement.{statement}
 use Rattle.reader.proofs.records.priced.Tie as tie
 
-amount-requires : tie.Need-amount-requires
-amount-requires c κs = search needs
+amount-byte-requires : tie.Need-amount-byte-requires
+amount-byte-requires c κs = search needs
 
 returns : tie.Need-returns
 returns c =
     let a = c .before .before .before .before .args in
-    part-refused (amount (a .map)) _ (drop (a .from) (a .bytes .now)) (c .if1 .taken) (c .before .before .amount .ensures)
+    let s = drop (a .from) (a .bytes .now) in
+    part-refused (amountByte (a .map) 0) _ s (c .if1 .taken) (gives-same (low-same (a .map) s) (c .before .before .amount-byte .ensures))
 
 element-write-table : tie.Need-element-write-table
 element-write-table c = search needs
@@ -35,16 +37,17 @@ returns-2 : tie.Need-returns-2
 returns-2 c =
     let one = c .before .before in
     let a = one .before .before .before .before .args in
-    let rate = one .before .before .amount in
-    part-known (amount (a .map)) _ (drop (a .from) (a .bytes .now)) (one .if1 .left) (rate .ensures)
-    (part-last (conditions (a .map)) _ (drop (rate .result .next) (a .bytes .now)) (c .conditions .ensures)
-    (λ cs q w. wrote-then (wrote-amount (a .table .now) (a .at) (rate .result .value) (omega arith)) w))
+    let low = one .before .before .amount-byte in
+    let s = drop (a .from) (a .bytes .now) in
+    part-known (amountByte (a .map) 0) _ s (one .if1 .left) (gives-same (low-same (a .map) s) (low .ensures))
+    (part-last (conditions (a .map)) _ (drop (low .result .next) (a .bytes .now)) (c .conditions .ensures)
+    (λ cs q w. record { wrote = wrote-then (wrote-two (a .table .now) (a .at) refl refl) w; low = omega arith }))
 
 pub priced-spec : {M : Type 1} → statement M
 priced-spec =
     tie.close
     (tie.spec
-    amount-requires
+    amount-byte-requires
     returns
     element-write-table
     add-table

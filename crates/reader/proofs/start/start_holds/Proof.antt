@@ -35,9 +35,9 @@ element-copy-out-holds-at-zero c = omega arith
 holds-at-zero-requires : tie.Need-holds-at-zero-requires Inv-loop μ-loop
 holds-at-zero-requires c κs = tt
 
--- The condition that was tested is the i-th of the first mode's row.
-tested : (t : List ℕ) (i : ℕ) (r : Bool) → r ≡ holdAtZero (conditionsFrom 0 (getD t (10 + i) 0 ∷ [])) → zeroTest (getD (drop 10 t) i 0) ≡ r
-tested t i r e = ap zeroTest (getD-drop 10 t i 0) ∙ sym (zero-one 0 (getD t (10 + i) 0)) ∙ sym e
+-- The condition that was looked at is the i-th of the first mode's row.
+looked-at : (t : List ℕ) (i : ℕ) (r : Bool) → r ≡ holdAtZero (conditionsFrom 0 (getD t (10 + i) 0 ∷ [])) → zeroTest (getD (drop 10 t) i 0) ≡ r
+looked-at t i r e = ap zeroTest (getD-drop 10 t i 0) ∙ sym (zero-one 0 (getD t (10 + i) 0)) ∙ sym e
 
 returns : tie.Need-returns Inv-loop μ-loop
 returns c =
@@ -45,7 +45,7 @@ returns c =
     let t = at-loop .before .args .table .now in
     let i = at-loop .loop .i in
     let there : i < length (drop 10 t) = omega (arith, length-drop 10 t, at-loop .before .pre) in
-    let fails = tested t i _ (c .before .holds-at-zero .ensures) ∙ not-true _ (c .if1 .taken) in
+    let fails = looked-at t i _ (c .before .holds-at-zero .ensures) ∙ not-true _ (c .if1 .taken) in
     sym (zero-every 0 (take 6 (drop 10 t)) ∙ every-fails zeroTest (drop 10 t) 6 i there (omega arith) fails)
 
 add-i : tie.Need-add-i Inv-loop μ-loop
@@ -60,7 +60,7 @@ loop-again c =
     let t = at-loop .before .args .table .now in
     let i = at-loop .loop .i in
     let there : i < length (drop 10 t) = omega (arith, length-drop 10 t, at-loop .before .pre) in
-    let passes = tested t i _ (c .before .holds-at-zero .ensures) ∙ not-false _ (c .if1 .left) in
+    let passes = looked-at t i _ (c .before .holds-at-zero .ensures) ∙ not-false _ (c .if1 .left) in
     (omega arith, rw (add-one i, every-more zeroTest (drop 10 t) i there, at-loop .loop .inv .1, passes))
 
 returns-2 : tie.Need-returns-2 Inv-loop μ-loop

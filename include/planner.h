@@ -28,7 +28,7 @@ enum {
     /* Refusals 1 to 7: the bytes are no table. They are judged from the left, and the first fault decides among 1 to 5. */
     PLANNER_BYTE_MISSING = 1,    /* a byte is needed and none is left */
     PLANNER_OUT_OF_RANGE = 2,    /* a count, goal or ceiling outside its range */
-    PLANNER_BIT_NOT_ALLOWED = 3, /* a map or reset bit for an absent timer, bit 7 in a mode's map, or reset bits 3 to 7 */
+    PLANNER_BIT_NOT_ALLOWED = 3, /* a map or reset bit for an absent timer, or reset bits 3 to 6 */
     PLANNER_BAD_CONDITION = 4,   /* a condition code that is not 1 to 5 */
     PLANNER_NO_SUCH_MODE = 5,    /* a move's from or to mode is not below the number of modes */
     PLANNER_BYTES_LEFT_OVER = 6, /* bytes behind the last record */
@@ -43,6 +43,9 @@ enum {
 
     PLANNER_NO_ROUTE = 255       /* no run comes into the goal mode, whatever its moves and its delays */
 };
+
+/* The most bytes that a table has. */
+enum { PLANNER_LONGEST_TABLE = 919 };
 
 /* The bytes of a route. A byte below 64 is the move with that number in the table. */
 enum {
@@ -61,7 +64,8 @@ enum {
  * The words that a table takes are 2E, where E = modes x (ceiling + 1) of each timer x 3, 13 or 75 for one, two or three timers. 6,000
  * words (24,000 bytes) are what the unit lends; 131,072 are enough for every table that refusal 8 lets pass.
  *
- * table, table_len  The table's bytes. They are read only, and never altered. The longest table has 839 bytes.
+ * table, table_len  The table's bytes. They are read only, and never altered. A rate or price has 16 bits, and its high byte is the last
+ *                   field of its record; no charge is above 4,294,836,225.
  * words, words_len  Work memory, aligned as uint32_t. What it holds before the call does not matter. After PLANNER_ROUTE,
  *                   PLANNER_NO_ROUTE and PLANNER_ROUTE_TOO_LONG its first 2E words are 0 and the others are untouched; after every
  *                   other answer all of it is untouched.

@@ -8,12 +8,12 @@
 #include <string.h>
 #include <unistd.h>
 
-enum { WORDS = 6000, ROUTE = 256, LONGEST = 840, GUARD = 8 };
+enum { WORDS = 6000, ROUTE = 256, INPUT = PLANNER_LONGEST_TABLE + 1, GUARD = 8 };
 
 /* What is lent, between guards. Before a call every element has a value of its own. */
 static uint32_t words[GUARD + WORDS + GUARD];
 static uint8_t route[GUARD + ROUTE + GUARD];
-static uint8_t table[GUARD + LONGEST + GUARD];
+static uint8_t table[GUARD + INPUT + GUARD];
 static uint32_t charge[3];
 static size_t steps[3], words_needed[3], route_needed[3];
 
@@ -266,7 +266,7 @@ int main(void)
 
     while (get(length, 2)) {
         size_t n = length[0] + 256u * length[1];
-        require(n <= LONGEST, "input: a byte more than any table has is the most");
+        require(n <= INPUT, "input: a byte more than any table has is the most");
         memset(table, 0xEE, sizeof table);
         require(get(table + GUARD, n), "input: a table is cut off");
         lent = lend(n);

@@ -5,14 +5,11 @@ ghost use lib.ListN.{length};
 use crate::print;
 use crate::tokens::LETTER;
 use crate::tokens::TOKENS;
-use report::Written;
 use route::Answer;
 
 const WORDS: usize = 129600;
 
 const ROUTE: usize = 256;
-
-const TEXT: usize = 1100;
 
 // Plans the bytes with the first words and route bytes lent; one more than there are counts from 0 again. Prints the answer, how many words are 0
 // then, how many behind them are still 7, and how many route bytes behind the steps are still 9.
@@ -43,14 +40,24 @@ fn told(words: &[u32; WORDS], route: &[u8; ROUTE], steps: usize) {
     );
 }
 
-// Prints the answer's lines, which are never longer than there is room.
+// Prints the answer as `plan` does.
 fn show(answer: Answer, route: &[u8; ROUTE]) {
-    let mut text = [0u8; TEXT];
-    let written = report::lines(answer, route, &mut text);
-    if let Written::Bytes(length) = written {
-        let n = length % 1101;
-        print::text(&text[..n]);
+    match answer {
+        Answer::Route(charge, n) => {
+            print::with(b"charge A\nroute", charge as usize);
+            listed(route, n);
+        }
+        Answer::NoRoute => print::text(b"no route\n"),
+        Answer::Refused(n) => print::refused(n),
     }
+}
+
+// The steps of a route, of which there are never more than route bytes, and the end of their line.
+fn listed(route: &[u8; ROUTE], n: usize) {
+    for i in 0..n % 257 {
+        print::step(route[i]);
+    }
+    print::text(b"\n");
 }
 
 // How many route bytes the answer fills.

@@ -51,3 +51,8 @@ pub fn list(entries: &[u32], n: usize) {
 fn entry(n: u32) {
     with(b" A", n as usize);
 }
+
+// A step of a route.
+pub fn step(byte: u8) {
+    entry(byte as u32);
+}

@@ -20,6 +20,13 @@ pub enum Answer {
     Route { charge: u32, steps: Vec<u8> },
 }
 
+impl Answer {
+    /// Whether it is given after a search.
+    pub fn is_searched(&self) -> bool {
+        !matches!(self, Answer::Refused(1..=9))
+    }
+}
+
 const DELAY: u8 = 64;
 const LINGER: u8 = 65;
 const MOST_TIMERS: usize = 3;
@@ -105,7 +112,7 @@ impl Region {
 #[derive(Clone, Copy)]
 struct Edge {
     to: u16,
-    charge: u8,
+    charge: u16,
     byte: u8,
 }
 
@@ -192,7 +199,7 @@ fn explore(table: &Table) -> Graph {
         // A chain that goes on from the goal mode is never the route, as what it has done so far
         // has fewer steps and is charged no more.
         if mode != table.goal {
-            let rate = table.modes[mode].rate as u8;
+            let rate = table.modes[mode].rate as u16;
             let later = region.delay(timers);
             let r0_is_empty = region.r0_is_empty(timers);
             if later.meets(&modes[mode]) {
@@ -221,8 +228,8 @@ fn explore(table: &Table) -> Graph {
                 step.resets.iter().for_each(|&timer| after.reset(timer, &mut corners));
                 if after.meets(&modes[step.to]) {
                     let to = places.node(step.to, after);
-                    steps
-                        .push((Edge { to, charge: step.price as u8, byte: number as u8 }, corners));
+                    let edge = Edge { to, charge: step.price as u16, byte: number as u8 };
+                    steps.push((edge, corners));
                 }
             }
         }
@@ -243,9 +250,11 @@ fn explore(table: &Table) -> Graph {
 }
 
 /// Charge and number of steps in one number that orders by charge first. A best path meets no node
-/// twice, so it has fewer than 2^16 steps of at most 255.
+/// twice, so it has fewer than 2^16 steps of at most 65,535: 16 bits for the steps and 32 for the
+/// charge leave 16 for a node. A step more, from the end of such a path, stays below 2^48 too, and
+/// leads back to a node that is nearer.
 type Distance = u64;
-const CHARGE: u32 = 20;
+const CHARGE: u32 = 16;
 const UNREACHED: Distance = Distance::MAX;
 
 impl Edge {

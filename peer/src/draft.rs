@@ -1,7 +1,7 @@
 //! A table whose fields are changed at random, one at a time.
 
 use crate::random::Random;
-use crate::shape::{write, Fields};
+use crate::record::{write_mode, write_move, Fields, HIGH, LOW, RESETS};
 use crate::table::{node_count, read};
 
 /// The most E that the unit's 6,000 words are enough for.
@@ -9,9 +9,6 @@ pub const MOST_NODES: u64 = 3_000;
 const MOST_MODES: usize = 16;
 const MOST_MOVES: usize = 64;
 const MOST_CEILING: u8 = 15;
-/// The bits of a record's map.
-const CHARGE: usize = 0;
-const RESETS: usize = 7;
 
 /// A table before it is written.
 #[derive(Clone, PartialEq, Eq)]
@@ -38,14 +35,14 @@ impl Draft {
             let mut draft = Draft {
                 goal: random.within(0, modes - 1),
                 ceilings: (0..timers).map(|_| random.within(1, MOST_CEILING)).collect(),
-                modes: vec![[None; 8]; modes.into()],
+                modes: vec![[None; 9]; modes.into()],
                 moves: Vec::new(),
             };
             if !draft.fits() {
                 continue;
             }
             for mode in 0..draft.modes.len() {
-                draft.modes[mode] = draft.any_fields(&draft.mode_bits(), random);
+                draft.modes[mode] = draft.any_fields(&draft.mode_places(), random);
             }
             draft.moves = (0..MOST_MOVES).map(|_| draft.any_move(random)).collect();
             if draft.fits() {
@@ -73,8 +70,8 @@ impl Draft {
         let mut bytes = counts.map(|count| count as u8).to_vec();
         bytes.push(self.goal);
         bytes.extend(&self.ceilings);
-        self.modes.iter().for_each(|&fields| write(&mut bytes, fields, &[]));
-        self.moves.iter().for_each(|step| write(&mut bytes, step.fields, &step.ends));
+        self.modes.iter().for_each(|&fields| write_mode(&mut bytes, fields));
+        self.moves.iter().for_each(|step| write_move(&mut bytes, step.fields, step.ends));
         bytes
     }
 
@@ -104,45 +101,46 @@ impl Draft {
 
     fn any_move(&self, random: &mut Random) -> Move {
         let ends = [(); 2].map(|()| self.any_mode(random));
-        Move { ends, fields: self.any_fields(&self.move_bits(), random) }
+        Move { ends, fields: self.any_fields(&self.move_places(), random) }
     }
 
-    fn any_fields(&self, bits: &[usize], random: &mut Random) -> Fields {
-        let mut fields = [None; 8];
-        for &bit in bits {
-            fields[bit] = self.any_field(bit, None, random);
+    fn any_fields(&self, places: &[usize], random: &mut Random) -> Fields {
+        let mut fields = [None; 9];
+        for &place in places {
+            fields[place] = self.any_field(place, None, random);
         }
         fields
     }
 
-    /// The bits that may stand in the map of a mode.
-    fn mode_bits(&self) -> Vec<usize> {
+    /// The places of the fields that a mode may have.
+    fn mode_places(&self) -> Vec<usize> {
         let timers = 0..self.ceilings.len();
-        [CHARGE].into_iter().chain(timers.flat_map(|timer| [1 + timer, 4 + timer])).collect()
+        [LOW, HIGH].into_iter().chain(timers.flat_map(|timer| [1 + timer, 4 + timer])).collect()
     }
 
-    fn move_bits(&self) -> Vec<usize> {
-        [self.mode_bits(), vec![RESETS]].concat()
+    fn move_places(&self) -> Vec<usize> {
+        [self.mode_places(), vec![RESETS]].concat()
     }
 
     /// A field in the place of an old one.
-    fn any_field(&self, bit: usize, old: Option<u8>, random: &mut Random) -> Option<u8> {
-        match bit {
-            CHARGE => match random.below(8) {
+    fn any_field(&self, place: usize, old: Option<u8>, random: &mut Random) -> Option<u8> {
+        match place {
+            LOW => match random.below(8) {
                 0 => None,
                 1 => Some(random.pick(&[0, 1, 255])),
                 2..5 => Some(old.unwrap_or(0).saturating_add(random.within(1, 9))),
                 5 => Some(old.unwrap_or(0).saturating_sub(random.within(1, 9))),
-                // Of any size, as small ones decide where large ones are even.
-                _ => Some(random.draw() as u8 >> random.below(8)),
+                _ => Some(any_size(random)),
             },
+            HIGH => random.one_in(6).then(|| any_size(random)),
             RESETS => (!random.one_in(6)).then(|| random.below(1 << self.ceilings.len()) as u8),
             _ => match random.below(8) {
                 0 => None,
                 // Met everywhere, but tested.
                 1..5 => Some(0x40),
                 _ => {
-                    Some(16 * random.within(1, 5) + random.within(0, self.ceilings[(bit - 1) % 3]))
+                    let ceiling = self.ceilings[(place - 1) % 3];
+                    Some(16 * random.within(1, 5) + random.within(0, ceiling))
                 }
             },
         }
@@ -156,10 +154,10 @@ impl Draft {
             2 => self.change_modes(random),
             3 => self.change_moves(random),
             4..8 => {
-                let (mode, bits) = (self.any_mode(random), self.mode_bits());
-                let bit = random.pick(&bits);
-                let old = self.modes[usize::from(mode)][bit];
-                self.modes[usize::from(mode)][bit] = self.any_field(bit, old, random);
+                let mode = usize::from(self.any_mode(random));
+                let place = random.pick(&self.mode_places());
+                let old = self.modes[mode][place];
+                self.modes[mode][place] = self.any_field(place, old, random);
             }
             _ if self.moves.is_empty() => (),
             change => {
@@ -169,9 +167,9 @@ impl Draft {
                     9 => self.moves[one] = self.moves[other],
                     10..13 => self.moves[one].ends[other % 2] = self.any_mode(random),
                     _ => {
-                        let bit = random.pick(&self.move_bits());
-                        let old = self.moves[one].fields[bit];
-                        self.moves[one].fields[bit] = self.any_field(bit, old, random);
+                        let place = random.pick(&self.move_places());
+                        let old = self.moves[one].fields[place];
+                        self.moves[one].fields[place] = self.any_field(place, old, random);
                     }
                 }
             }
@@ -211,6 +209,11 @@ impl Draft {
             self.moves.remove(random.below(self.moves.len() as u64) as usize);
         }
     }
+}
+
+/// A byte of any size, as small ones decide where large ones are even.
+fn any_size(random: &mut Random) -> u8 {
+    random.draw() as u8 >> random.below(8)
 }
 
 #[cfg(test)]

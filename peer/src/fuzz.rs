@@ -3,10 +3,11 @@
 use crate::dijkstra::{self, Answer};
 use crate::generate::{case, Case, Kind};
 use crate::lend::{self, Needs};
+use crate::memory::{zeroed, Memory};
 use crate::paper::{self, Outcome};
 use crate::random::Random;
+use crate::runs;
 use crate::table::{self, node_count, Table};
-use crate::{proved, runs};
 use std::collections::BTreeMap;
 use std::process::ExitCode;
 
@@ -37,10 +38,14 @@ pub fn run(seed: u64, count: u64) -> ExitCode {
 struct Tally {
     kinds: BTreeMap<Kind, u64>,
     refused: BTreeMap<u8, u64>,
+    /// Tables that are read, with a rate or price above 255.
+    with_high: u64,
     no_route: u64,
     /// Routes, by the number of bits that their number of steps has.
     routes: BTreeMap<u32, u64>,
     with_linger: u64,
+    charged_above_255: u64,
+    charged_above_65_535: u64,
     /// Tables that were planned with just what the call says that is to be lent.
     as_much_as_said: u64,
     searched: u64,
@@ -54,7 +59,9 @@ impl Tally {
         match answer {
             Answer::Refused(number) => *self.refused.entry(*number).or_default() += 1,
             Answer::NoRoute => self.no_route += 1,
-            Answer::Route { steps, .. } => {
+            Answer::Route { charge, steps } => {
+                self.charged_above_255 += u64::from(*charge > 255);
+                self.charged_above_65_535 += u64::from(*charge > 65_535);
                 *self.routes.entry(usize::BITS - steps.len().leading_zeros()).or_default() += 1;
                 self.with_linger += u64::from(steps.contains(&65));
             }
@@ -64,6 +71,7 @@ impl Tally {
     fn print(&self) {
         println!("tables {}", self.kinds.values().sum::<u64>());
         self.kinds.iter().for_each(|(kind, count)| println!("  {kind:?} {count}"));
+        println!("with a rate or price above 255: {}", self.with_high);
         self.refused.iter().for_each(|(number, count)| println!("refused {number}: {count}"));
         println!("no route: {}", self.no_route);
         println!("routes: {}", self.routes.values().sum::<u64>());
@@ -71,6 +79,8 @@ impl Tally {
             println!("  of {} to {} steps: {count}", 1 << bits >> 1, (1 << bits) - 1);
         }
         println!("  with a linger: {}", self.with_linger);
+        println!("  charged above 255: {}", self.charged_above_255);
+        println!("  charged above 65,535: {}", self.charged_above_65_535);
         println!("lent as much as lend says: {}", self.as_much_as_said);
         let held = self.searched - self.gave_up;
         println!("held to the paper's algorithm: {held} (it gave up on {} more)", self.gave_up);
@@ -82,6 +92,7 @@ impl Tally {
 fn check(case: &Case, tally: &mut Tally) -> Result<(), String> {
     let table = table::read(&case.table).ok();
     let nodes = table.as_ref().map(node_count);
+    let is_high = table.as_ref().is_some_and(|table| table.charges().any(|charge| charge > 255));
     let unlimited = dijkstra::plan(&case.table, usize::MAX, usize::MAX);
     let mut random = case.random.clone();
     let needs = needs(&case.table, lend::of(&unlimited, nodes), &mut random)?;
@@ -93,7 +104,8 @@ fn check(case: &Case, tally: &mut Tally) -> Result<(), String> {
     let with_lent = |text| format!("{words} words and {route_bytes} route bytes lent\n{text}");
     let before = Memory::new(&case.table, words, route_bytes, &mut random);
     let answer = dijkstra::plan(&case.table, words, route_bytes);
-    let (must, got) = (before.clone().after(&answer, nodes), before.planned());
+    let must = before.clone().after(&answer, zeroed(&answer, nodes));
+    let got = before.planned();
     if must != got {
         return Err(with_lent(format!("independent: {answer:?}\n{}", must.unlike(&got))));
     }
@@ -101,9 +113,10 @@ fn check(case: &Case, tally: &mut Tally) -> Result<(), String> {
         return Err(with_lent(format!("as much as was said: {answer:?}")));
     }
     tally.as_much_as_said += u64::from(as_said && matches!(needs, Needs::Memory { .. }));
+    tally.with_high += u64::from(is_high);
     tally.count(case.kind, &answer);
     match table {
-        Some(table) if searches(&answer) => {
+        Some(table) if answer.is_searched() => {
             hold(&table, case.kind, &unlimited, tally).map_err(with_lent)
         }
         _ => Ok(()),
@@ -134,12 +147,7 @@ fn hold(table: &Table, kind: Kind, answer: &Answer, tally: &mut Tally) -> Result
     Ok(())
 }
 
-/// Whether the answer is given after a search.
-fn searches(answer: &Answer) -> bool {
-    !matches!(answer, Answer::Refused(1..=9))
-}
-
-fn outcome_of(answer: &Answer) -> Outcome {
+pub fn outcome_of(answer: &Answer) -> Outcome {
     match answer {
         Answer::Route { charge, .. } => Outcome::Charge(*charge),
         _ => Outcome::Unreachable,
@@ -179,106 +187,6 @@ fn route_bytes_lent(random: &mut Random, unlimited: &Answer) -> usize {
     }
 }
 
-/// What a call is handed. Table, words, route bytes and the two numbers each lie between guards,
-/// which no call may change.
-#[derive(Clone, PartialEq)]
-struct Memory {
-    table: Vec<u8>,
-    words: Vec<u32>,
-    route: Vec<u8>,
-    charge: [u32; 3],
-    steps: [usize; 3],
-    /// What the call returned.
-    returned: u8,
-}
-
-const GUARD_BYTES: usize = 32;
-const GUARD_WORDS: usize = 16;
-/// No call returns this.
-const NOT_CALLED: u8 = 254;
-
-impl Memory {
-    fn new(table: &[u8], words: usize, route_bytes: usize, random: &mut Random) -> Memory {
-        let [low, high] = [(); 2].map(|()| random.bytes(GUARD_BYTES));
-        Memory {
-            table: [&low, table, &high].concat(),
-            words: (0..words + 2 * GUARD_WORDS).map(|_| random.draw() as u32).collect(),
-            route: random.bytes(route_bytes + 2 * GUARD_BYTES),
-            charge: [(); 3].map(|()| random.draw() as u32),
-            steps: [(); 3].map(|()| random.draw() as usize),
-            returned: NOT_CALLED,
-        }
-    }
-
-    /// After a call of the proved planner.
-    fn planned(mut self) -> Memory {
-        self.returned = proved::plan(
-            inside(&mut self.table, GUARD_BYTES),
-            inside(&mut self.words, GUARD_WORDS),
-            inside(&mut self.route, GUARD_BYTES),
-            &mut self.charge[1],
-            &mut self.steps[1],
-        );
-        self
-    }
-
-    /// After a call that gives this answer, as document 01 has it.
-    fn after(mut self, answer: &Answer, nodes: Option<u64>) -> Memory {
-        if searches(answer) {
-            let needed = 2 * nodes.unwrap_or(0) as usize;
-            inside(&mut self.words, GUARD_WORDS)[..needed].fill(0);
-        }
-        self.returned = match answer {
-            Answer::Refused(number) => *number,
-            Answer::NoRoute => proved::NO_ROUTE,
-            Answer::Route { charge, steps } => {
-                inside(&mut self.route, GUARD_BYTES)[..steps.len()].copy_from_slice(steps);
-                self.charge[1] = *charge;
-                self.steps[1] = steps.len();
-                proved::ROUTE
-            }
-        };
-        self
-    }
-
-    /// Tells where another is not the same.
-    fn unlike(&self, got: &Memory) -> String {
-        let numbers = |memory: &Memory| {
-            format!("{}, charge {:?}, steps {:?}", memory.returned, memory.charge, memory.steps)
-        };
-        let mut text = format!("must return {}\ngot         {}", numbers(self), numbers(got));
-        text += &first_unlike("table byte", GUARD_BYTES, &self.table, &got.table);
-        text += &first_unlike("word", GUARD_WORDS, &self.words, &got.words);
-        text += &first_unlike("route byte", GUARD_BYTES, &self.route, &got.route);
-        text + &format!(
-            "\nroute bytes got {:?}",
-            &got.route[GUARD_BYTES..got.route.len() - GUARD_BYTES]
-        )
-    }
-}
-
-/// What lies between the guards.
-fn inside<T>(memory: &mut [T], guard: usize) -> &mut [T] {
-    let end = memory.len() - guard;
-    &mut memory[guard..end]
-}
-
-/// The first place that differs, counted from the first that is lent.
-fn first_unlike<T: PartialEq + std::fmt::Debug>(
-    what: &str,
-    guard: usize,
-    must: &[T],
-    got: &[T],
-) -> String {
-    match must.iter().zip(got).position(|(must, got)| must != got) {
-        Some(at) => {
-            let place = at as isize - guard as isize;
-            format!("\n{what} {place} must be {:?}, is {:?}", must[at], got[at])
-        }
-        None => String::new(),
-    }
-}
-
 #[cfg(test)]
 mod tests {
     use super::*;
@@ -291,5 +199,6 @@ mod tests {
         }
         assert!(tally.refused.keys().copied().eq(1..=10));
         assert!(tally.no_route > 0 && tally.routes.len() > 4 && tally.with_linger > 0);
+        assert!(tally.with_high > 300 && tally.charged_above_65_535 > 10);
     }
 }

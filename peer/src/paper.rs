@@ -25,6 +25,8 @@ pub fn least_charge(table: &Table, most_rounds: u64) -> Outcome {
 }
 
 /// The prices c0 to ck of a region; those after ck are kept at 0, so that all four can be compared.
+/// A sum that does not fit stays at the most that does. No least charge has such a price on its way,
+/// as it is less than 2^16 charges of at most 65,535, so how such prices compare changes nothing.
 type Prices = [u32; 4];
 
 /// A priced region over N timers (definition 3).
@@ -63,7 +65,7 @@ impl<const N: usize> Region<N> {
                 *i += 1;
             }
             self.top += 1;
-            self.prices[self.top as usize] = self.prices[0] + rate;
+            self.prices[self.top as usize] = self.prices[0].saturating_add(rate);
         }
         self
     }
@@ -71,7 +73,7 @@ impl<const N: usize> Region<N> {
     /// Definition 8, there called self.
     fn linger(mut self, rate: u32) -> Self {
         if self.r0_is_empty() {
-            let (waited, last) = (self.prices[0] + rate, self.top as usize);
+            let (waited, last) = (self.prices[0].saturating_add(rate), self.top as usize);
             self.prices[last] = self.prices[last].min(waited);
         }
         self
@@ -99,7 +101,7 @@ impl<const N: usize> Region<N> {
     /// Definition 7, there called increment.
     fn charge(mut self, price: u32) -> Self {
         for c in &mut self.prices[..=self.top as usize] {
-            *c += price;
+            *c = c.saturating_add(price);
         }
         self
     }

@@ -1,5 +1,6 @@
 //! Holds an answer to the runs of the unit: none is charged less, and runs along the route's moves
-//! come as near as one likes.
+//! come as near as one likes. How near is told in parts of what all rates and prices are multiples of:
+//! high ones would need finer delays otherwise.
 
 use crate::dijkstra::Answer;
 use crate::grid::{least, least_along};
@@ -18,19 +19,30 @@ pub fn check(table: &Table, answer: &Answer) -> Result<(), String> {
     let Answer::Route { charge, steps } = answer else { return Ok(()) };
     let moves: Vec<usize> =
         steps.iter().map(|&step| step.into()).filter(|&step| step < 64).collect();
+    let part = common_divisor(table);
     for m in nearness(table) {
-        if !denominators(table).iter().any(|&q| near(table, q, &moves, *charge, m)) {
+        // Whether a run in q-ths is charged less than C + part / m.
+        let less = |q, s| m * s < u64::from(q) * (m * u64::from(*charge) + part);
+        let near = |&q: &u32| least_along(table, q, &moves).is_some_and(|s| less(q, s));
+        if !denominators(table).iter().any(near) {
             return Err(format!(
-                "no run along the route is charged less than {charge} + 1/{m}: {answer:?}"
+                "no run along the route is charged less than {charge} + {part}/{m}: {answer:?}"
             ));
         }
     }
     Ok(())
 }
 
-/// Whether some run along these moves is charged less than C + 1/m.
-fn near(table: &Table, q: u32, moves: &[usize], charge: u32, m: u64) -> bool {
-    least_along(table, q, moves).is_some_and(|s| m * s < u64::from(q) * (m * u64::from(charge) + 1))
+/// The greatest number that all rates and prices are multiples of; 1 if all are 0.
+fn common_divisor(table: &Table) -> u64 {
+    fn of(a: u32, b: u32) -> u32 {
+        if b == 0 {
+            a
+        } else {
+            of(b, a % b)
+        }
+    }
+    table.charges().fold(0, of).max(1).into()
 }
 
 /// The values of m to try. The points of three timers are many, so there m is 1 only.

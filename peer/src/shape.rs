@@ -1,6 +1,8 @@
 //! Well-formed tables at random, of a given shape.
 
+use crate::charge::{charge, grain};
 use crate::random::Random;
+use crate::record::{write_mode, write_move, Fields, HIGH, LOW, RESETS};
 
 /// What a well-formed table is drawn from.
 pub struct Shape {
@@ -8,8 +10,11 @@ pub struct Shape {
     pub ceilings: Vec<u8>,
     moves: u8,
     goal: u8,
+    /// The highest, in grains.
     most_rate: u8,
     most_price: u8,
+    /// Rates and prices are multiples of this; mostly it is 1, otherwise they have high bytes.
+    grain: u16,
     /// A move has a window on a timer once in so many; a mode half as often, or less.
     window_in: u64,
     reset_in: u64,
@@ -48,6 +53,7 @@ impl Shape {
             goal: modes - 1,
             most_rate: 4,
             most_price: 9,
+            grain: grain(9, random),
             window_in: random.pick(&[1, 2, 3]),
             reset_in: random.pick(&[1, 2, 4]),
             line: random.pick(&[Line::None, Line::None, Line::Slow, Line::Woven]),
@@ -75,7 +81,8 @@ impl Shape {
         });
         let moves = shape.modes - 1 + random.within(0, 8);
         let (most_rate, most_price) = (random.pick(&[1, 2, 4, 9]), random.pick(&[0, 1, 2, 9]));
-        Shape { moves, most_rate, most_price, ..shape }
+        let grain = grain(most_rate.max(most_price), random);
+        Shape { moves, most_rate, most_price, grain, ..shape }
     }
 
     /// Draws until one fits.
@@ -88,6 +95,8 @@ impl Shape {
             let goal = if in_line { modes - 1 } else { goal };
             let most_moves = random.pick(&[4, 12, 24, 64]);
             let most_ceiling = random.pick(&[1, 2, 3, 4, 4, 8, 15]);
+            let most_rate = random.pick(&[0, 1, 3, 9, 30, 255]);
+            let most_price = random.pick(&[0, 1, 9, 30, 255]);
             let shape = Shape {
                 modes,
                 ceilings: (0..random.within(1, 3))
@@ -95,8 +104,9 @@ impl Shape {
                     .collect(),
                 moves: random.within(if in_line { modes - 1 } else { 0 }, most_moves.max(modes)),
                 goal,
-                most_rate: random.pick(&[0, 1, 3, 9, 30, 255]),
-                most_price: random.pick(&[0, 1, 9, 30, 255]),
+                most_rate,
+                most_price,
+                grain: grain(most_rate.max(most_price), random),
                 window_in: random.pick(&[1, 2, 4, 8]),
                 reset_in: random.pick(&[1, 2, 4]),
                 line,
@@ -112,7 +122,7 @@ impl Shape {
         let mut bytes = vec![self.modes, self.ceilings.len() as u8, self.moves, self.goal];
         bytes.extend(&self.ceilings);
         for mode in 0..self.modes {
-            write(&mut bytes, mode_fields(self, mode, random), &[]);
+            write_mode(&mut bytes, mode_fields(self, mode, random));
         }
         let mut run = vec![0; self.ceilings.len()];
         for number in 0..self.moves {
@@ -121,7 +131,7 @@ impl Shape {
             } else {
                 (move_fields(self, random), self.ends(random))
             };
-            write(&mut bytes, fields, &modes);
+            write_move(&mut bytes, fields, modes);
         }
         bytes
     }
@@ -136,18 +146,9 @@ impl Shape {
     }
 }
 
-/// A record before it is written: the field of each bit of its map.
-pub type Fields = [Option<u8>; 8];
-
-pub fn write(bytes: &mut Vec<u8>, fields: Fields, modes: &[u8]) {
-    bytes.push((0..8).map(|bit| u8::from(fields[bit].is_some()) << bit).sum());
-    bytes.extend(modes);
-    bytes.extend(fields.into_iter().flatten());
-}
-
 fn mode_fields(shape: &Shape, mode: u8, random: &mut Random) -> Fields {
-    let mut fields = [None; 8];
-    fields[0] = charge(shape.most_rate, random);
+    let mut fields = [None; 9];
+    [fields[LOW], fields[HIGH]] = charge(shape.most_rate, shape.grain, random);
     for (timer, &ceiling) in shape.ceilings.iter().enumerate() {
         if random.one_in(if shape.line != Line::None { 20 } else { 2 * shape.window_in }) {
             // Mostly a bound from above, else a mode is rarely reached. Mode 0 must hold at zero,
@@ -162,15 +163,15 @@ fn mode_fields(shape: &Shape, mode: u8, random: &mut Random) -> Fields {
 }
 
 fn move_fields(shape: &Shape, random: &mut Random) -> Fields {
-    let mut fields = [None; 8];
-    fields[0] = charge(shape.most_price, random);
+    let mut fields = [None; 9];
+    [fields[LOW], fields[HIGH]] = charge(shape.most_price, shape.grain, random);
     for (timer, &ceiling) in shape.ceilings.iter().enumerate() {
         if random.one_in(shape.window_in) {
             [fields[1 + timer], fields[4 + timer]] = window(ceiling, random);
         }
     }
     // Any set of timers, so sometimes none.
-    fields[7] =
+    fields[RESETS] =
         random.one_in(shape.reset_in).then(|| random.below(1 << shape.ceilings.len()) as u8);
     fields
 }
@@ -181,19 +182,19 @@ fn line_fields(shape: &Shape, run: &mut [u32], random: &mut Random) -> Fields {
         Line::Woven => woven_fields(shape, run, random),
         _ => slow_fields(shape, random),
     };
-    fields[0] = charge(shape.most_price, random);
+    [fields[LOW], fields[HIGH]] = charge(shape.most_price, shape.grain, random);
     fields
 }
 
 fn slow_fields(shape: &Shape, random: &mut Random) -> Fields {
-    let mut fields = [None; 8];
+    let mut fields = [None; 9];
     let timers = shape.ceilings.len() as u64;
     let timer = random.below(timers) as usize;
     let ceiling = shape.ceilings[timer];
     let all = (1 << timers) - 1;
     if shape.line == Line::Slowest {
         fields[1 + timer] = Some(0x40 + ceiling);
-        fields[7] = Some(all);
+        fields[RESETS] = Some(all);
         return fields;
     }
     let value = random.within(1, ceiling).max(random.within(1, ceiling));
@@ -209,7 +210,7 @@ fn slow_fields(shape: &Shape, random: &mut Random) -> Fields {
     }
     if !random.one_in(4) {
         let (one, some) = (1 << timer, random.below(1 << timers) as u8);
-        fields[7] = Some(random.pick(&[all, all, one, some]));
+        fields[RESETS] = Some(random.pick(&[all, all, one, some]));
     }
     fields
 }
@@ -219,7 +220,7 @@ const PARTS: u32 = 6;
 
 /// Waits, puts windows about the values that the timers then have, and resets some.
 fn woven_fields(shape: &Shape, run: &mut [u32], random: &mut Random) -> Fields {
-    let mut fields = [None; 8];
+    let mut fields = [None; 9];
     let room = run.iter().zip(&shape.ceilings).map(|(v, &c)| PARTS * u32::from(c) - v).min();
     let wait = random.below(u64::from(room.unwrap_or(0).min(2 * PARTS)) + 1) as u32;
     let resets = match random.below(4) {
@@ -236,7 +237,7 @@ fn woven_fields(shape: &Shape, run: &mut [u32], random: &mut Random) -> Fields {
             *value = 0;
         }
     }
-    fields[7] = resets;
+    fields[RESETS] = resets;
     fields
 }
 
@@ -253,11 +254,6 @@ fn window_about(value: u32, random: &mut Random) -> [Option<u8>; 2] {
         2 if exact => [Some(0x30 + whole), None],
         _ => [lower, upper],
     }
-}
-
-/// A rate or price, or none.
-fn charge(most: u8, random: &mut Random) -> Option<u8> {
-    (!random.one_in(5)).then(|| random.within(0, most))
 }
 
 /// One or two conditions on a timer.

@@ -1,4 +1,4 @@
-//! A table as document 01 defines it, read from its bytes.
+//! A table as document 01 defines it, with the high bytes of request N2, read from its bytes.
 
 /// A condition on a timer: `code` 1 to 5 is <, ≤, =, ≥, >.
 #[derive(Clone, Debug, PartialEq, Eq)]
@@ -11,6 +11,7 @@ pub struct Condition {
 /// A mode (location).
 #[derive(Clone, Debug, Default, PartialEq, Eq)]
 pub struct Mode {
+    /// At most 65,535, as a price is.
     pub rate: u32,
     pub conditions: Vec<Condition>,
 }
@@ -35,6 +36,14 @@ pub struct Table {
     pub moves: Vec<Move>,
 }
 
+impl Table {
+    /// All rates and prices.
+    pub fn charges(&self) -> impl Iterator<Item = u32> + '_ {
+        let prices = self.moves.iter().map(|step| step.price);
+        self.modes.iter().map(|mode| mode.rate).chain(prices)
+    }
+}
+
 /// The bytes of a table, taken from the left.
 struct Reader<'a> {
     bytes: std::slice::Iter<'a, u8>,
@@ -42,13 +51,9 @@ struct Reader<'a> {
     modes: u8,
 }
 
-/// The fields of a record that follow its map (and, in a move, its two modes).
-#[derive(Default)]
-struct Fields {
-    charge: u32,
-    conditions: Vec<Condition>,
-    resets: Vec<usize>,
-}
+/// The bit that announces a reset byte in the map of a move, and a high byte in the map of a mode
+/// and in a reset byte.
+const LAST: u8 = 0x80;
 
 impl Reader<'_> {
     fn byte(&mut self) -> Result<u8, u8> {
@@ -80,9 +85,9 @@ impl Reader<'_> {
         (1 << self.timers) - 1
     }
 
-    /// The map bits that stand for a rate or price, or a condition on a timer that is there.
-    fn mode_bits(&self) -> u8 {
-        1 | self.timer_bits() << 1 | self.timer_bits() << 4
+    /// The map of a record.
+    fn map(&mut self) -> Result<u8, u8> {
+        self.bits(1 | self.timer_bits() << 1 | self.timer_bits() << 4 | LAST)
     }
 
     /// A from or to mode.
@@ -95,27 +100,42 @@ impl Reader<'_> {
         }
     }
 
-    fn fields(&mut self, map: u8) -> Result<Fields, u8> {
-        let mut fields = Fields::default();
-        for bit in (0..8).filter(|bit| map >> bit & 1 == 1) {
-            match bit {
-                0 => fields.charge = self.byte()?.into(),
-                7 => {
-                    let resets = self.bits(self.timer_bits())?;
-                    fields.resets = (0..3).filter(|timer| resets >> timer & 1 == 1).collect();
-                }
-                _ => {
-                    let byte = self.byte()?;
-                    let code = byte / 16;
-                    if !(1..=5).contains(&code) {
-                        return Err(4);
-                    }
-                    let value = u32::from(byte % 16);
-                    fields.conditions.push(Condition { timer: (bit - 1) % 3, code, value });
-                }
-            }
+    /// The low byte of a rate or price, 0 if it is missing.
+    fn low(&mut self, map: u8) -> Result<u32, u8> {
+        if map & 1 == 0 {
+            return Ok(0);
         }
-        Ok(fields)
+        Ok(self.byte()?.into())
+    }
+
+    fn conditions(&mut self, map: u8) -> Result<Vec<Condition>, u8> {
+        let mut conditions = Vec::new();
+        for bit in (1..7).filter(|bit| map >> bit & 1 == 1) {
+            let byte = self.byte()?;
+            let code = byte / 16;
+            if !(1..=5).contains(&code) {
+                return Err(4);
+            }
+            let value = u32::from(byte % 16);
+            conditions.push(Condition { timer: (bit - 1) % 3, code, value });
+        }
+        Ok(conditions)
+    }
+
+    /// The reset byte of a move, 0 if it is missing.
+    fn resets(&mut self, map: u8) -> Result<u8, u8> {
+        if map & LAST == 0 {
+            return Ok(0);
+        }
+        self.bits(self.timer_bits() | LAST)
+    }
+
+    /// What the high byte adds to a rate or price, if these bits announce one.
+    fn high(&mut self, bits: u8) -> Result<u32, u8> {
+        if bits & LAST == 0 {
+            return Ok(0);
+        }
+        Ok(256 * u32::from(self.byte()?))
     }
 }
 
@@ -130,14 +150,20 @@ pub fn read(bytes: &[u8]) -> Result<Table, u8> {
         table.ceilings.push(reader.within(1, 15)?.into());
     }
     for _ in 0..reader.modes {
-        let map = reader.bits(reader.mode_bits())?;
-        let Fields { charge: rate, conditions, .. } = reader.fields(map)?;
+        let map = reader.map()?;
+        let low = reader.low(map)?;
+        let conditions = reader.conditions(map)?;
+        let rate = low + reader.high(map)?;
         table.modes.push(Mode { rate, conditions });
     }
     for _ in 0..moves {
-        let map = reader.bits(reader.mode_bits() | 0x80)?;
+        let map = reader.map()?;
         let (from, to) = (reader.mode()?, reader.mode()?);
-        let Fields { charge: price, conditions, resets } = reader.fields(map)?;
+        let low = reader.low(map)?;
+        let conditions = reader.conditions(map)?;
+        let resets = reader.resets(map)?;
+        let price = low + reader.high(resets)?;
+        let resets = (0..3).filter(|timer| resets >> timer & 1 == 1).collect();
         table.moves.push(Move { from, to, price, conditions, resets });
     }
     if reader.bytes.len() > 0 {
@@ -162,99 +188,4 @@ pub fn node_count(table: &Table) -> u64 {
 }
 
 #[cfg(test)]
-mod tests {
-    use super::*;
-
-    /// T of document 01.
-    const T: [u8; 19] = [3, 1, 2, 2, 2, 1, 3, 1, 1, 0, 1, 0, 1, 5, 3, 1, 2, 1, 0x51];
-
-    #[test]
-    fn t_is_read_whole() {
-        let condition = Condition { timer: 0, code: 5, value: 1 };
-        let mode = |rate| Mode { rate, conditions: vec![] };
-        let table = Table {
-            goal: 2,
-            ceilings: vec![2],
-            modes: vec![mode(3), mode(1), mode(0)],
-            moves: vec![
-                Move { from: 0, to: 1, price: 5, ..Move::default() },
-                Move { from: 1, to: 2, price: 1, conditions: vec![condition], resets: vec![] },
-            ],
-        };
-        assert_eq!(read(&T), Ok(table.clone()));
-        assert_eq!(node_count(&table), 27);
-    }
-
-    #[test]
-    fn every_field_is_read_by_rising_bit() {
-        let bytes = [
-            1, 3, 1, 0, 1, 2, 3, 0x7f, 9, 0x11, 0x22, 0x30, 0x40, 0x2f, 0x1f, // one mode
-            0xff, 0, 0, 8, 0x51, 0x52, 0x53, 0x14, 0x25, 0x36, 0x05, // one move
-        ];
-        let list = |bytes: &[u8]| -> Vec<Condition> {
-            let condition = |(i, b): (usize, &u8)| Condition {
-                timer: i % 3,
-                code: b >> 4,
-                value: (b & 15).into(),
-            };
-            bytes.iter().enumerate().map(condition).collect()
-        };
-        let table = read(&bytes).unwrap();
-        assert_eq!(table.ceilings, [1, 2, 3]);
-        assert_eq!(table.modes, [Mode { rate: 9, conditions: list(&bytes[9..15]) }]);
-        let conditions = list(&bytes[19..25]);
-        assert_eq!(
-            table.moves,
-            [Move { from: 0, to: 0, price: 8, conditions, resets: vec![0, 2] }]
-        );
-        assert_eq!(node_count(&table), 2 * 3 * 4 * 75);
-    }
-
-    #[test]
-    fn a_byte_is_judged_before_the_next_is_sought() {
-        for length in 0..T.len() {
-            assert_eq!(read(&T[..length]), Err(1), "{length} bytes");
-        }
-        let refused: [(&[u8], u8); 16] = [
-            (&[17], 2),
-            (&[1, 0], 2),
-            (&[1, 4], 2),
-            (&[1, 1, 65], 2),
-            (&[1, 1, 0, 1], 2),
-            (&[1, 1, 0, 0, 0], 2),
-            (&[1, 1, 0, 0, 16], 2),
-            (&[1, 1, 0, 0, 1, 0x04], 3),
-            (&[1, 2, 0, 0, 1, 1, 0x40], 3),
-            (&[1, 1, 1, 0, 1, 0, 0x20], 3),
-            (&[1, 1, 1, 0, 1, 0, 0x80, 0, 0, 0x02], 3),
-            (&[1, 3, 1, 0, 1, 1, 1, 0, 0x80, 0, 0, 0x08], 3),
-            (&[1, 1, 0, 0, 1, 0x02, 0x60], 4),
-            (&[1, 1, 1, 0, 1, 0, 0x02, 1], 5),
-            (&[1, 1, 1, 0, 1, 0, 0x02, 0, 1], 5),
-            // What is left over goes before mode 0's conditions.
-            (&[1, 1, 0, 0, 1, 0x02, 0x41, 0], 6),
-        ];
-        for (bytes, number) in refused {
-            assert_eq!(read(bytes), Err(number), "{bytes:?}");
-        }
-    }
-
-    #[test]
-    fn mode_0_is_tested_at_zero() {
-        for (condition, holds) in [
-            (0x10, false),
-            (0x11, true),
-            (0x20, true),
-            (0x2f, true),
-            (0x30, true),
-            (0x31, false),
-            (0x40, true),
-            (0x41, false),
-            (0x50, false),
-            (0x5f, false),
-        ] {
-            let answer = read(&[1, 1, 0, 0, 1, 0x02, condition]);
-            assert_eq!(answer.err(), if holds { None } else { Some(7) }, "{condition:#x}");
-        }
-    }
-}
+mod tests;

@@ -10,6 +10,7 @@ mod readings;
 mod scripts;
 mod searches;
 mod tokens;
+mod writes;
 
 ghost use Rattle.table.specs.Held.{IsTable};
 use crate::tokens::TOKENS;
@@ -60,6 +61,8 @@ const SEARCH: usize = 0x6561_7263_6800_0000;
 
 const CHAIN: usize = 0x6368_6169_6e00_0000;
 
+const WRITE: usize = 0x7772_6974_6500_0000;
+
 const TITLE: usize = 0x3d00_0000;
 
 const COMMENT: usize = 0x2300_0000;
@@ -70,6 +73,7 @@ fn called(name: usize, line: &[u8], numbers: &[usize; TOKENS], bytes: &[u8]) {
     match name {
         PLAN => plans::plan(numbers, bytes),
         LEND => lends::lend(bytes),
+        WRITE => writes::write(numbers, bytes),
         REGION => scripts::region(numbers),
         CORNERS => cells::corners(scripts::timers(numbers)),
         READ | SEARCH | CHAIN => of_table(numbers, bytes),

@@ -82,9 +82,9 @@ fn past(words: &[u32; WORDS], from: usize, x: u32) -> usize {
 }
 
 // The first place from a place on where the byte is not x.
-fn past_bytes(bytes: &[u8; ROUTE], from: usize, x: u8) -> usize {
+pub fn past_bytes(bytes: &[u8], from: usize, x: u8) -> usize {
     let mut at = from;
-    while at < ROUTE {
+    while at < bytes.len() {
         if bytes[at] != x {
             return at;
         }

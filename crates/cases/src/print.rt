@@ -56,3 +56,8 @@ fn entry(n: u32) {
 pub fn step(byte: u8) {
     entry(byte as u32);
 }
+
+// A byte of a table.
+pub fn byte(byte: u8) {
+    with(b" H", byte as usize);
+}

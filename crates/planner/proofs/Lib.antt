@@ -1,2 +1,3 @@
--- What the proof of the exported call uses.
+-- What the proofs of the exported calls use.
 pub mod Telling
+pub mod Writing

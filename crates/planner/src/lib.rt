@@ -1,14 +1,19 @@
-// The planner for C and Rust: the calls of `route` with their answers in plain numbers. include/planner.h is the page for their callers.
+// The planner for C and Rust: the calls of `route`, `writer` and `form` with their answers in plain numbers. include/planner.h is the page for their callers.
 ghost use mathlib.Core.Path.{_≡_};
 ghost use lib.ListN.{length};
 ghost use Rattle.route.specs.Plan.{outcome, planned};
 ghost use Rattle.route.specs.Promise.{KeepsDemand};
 ghost use Rattle.route.specs.Lend.{needed, Enough};
-ghost use Rattle.planner.specs.Numbers.{decoded, decodedNeeds, Untouched};
+ghost use Rattle.form.specs.Filled.{outcome as Filled·outcome, filled};
+ghost use Rattle.writer.specs.Written.{outcome as Written·outcome, written, Lays};
+ghost use Rattle.planner.specs.Numbers.{decoded, decodedNeeds, decodedWritten, decodedVerdict, Untouched};
+use form::FORM;
+use reader::Verdict;
 use route::Answer;
 use route::Needs;
+use writer::Written;
 
-// The numbers that stand for what was asked for, a route or memory that is enough, and for no route. A refusal stands for itself: 1 to 10.
+// The numbers that stand for what was asked for and for no route. A refusal stands for itself: 1 to 11.
 const OK: u8 = 0;
 
 const NO_ROUTE: u8 = 255;
@@ -62,5 +67,36 @@ pub extern "C" fn planner_lend(table: &[u8], need: &mut usize, room: &mut usize)
             *room = b;
             OK
         }
+    }
+}
+
+// Writes the table that a form says into the destination. The number of its bytes goes through the last parameter; a refusal leaves that alone.
+#[no_mangle]
+pub extern "C" fn planner_write(form: &[u8; FORM], destination: &mut [u8], size: &mut usize) -> u8
+    ensures outcome { λ r. ⌜
+        Written·outcome (decodedWritten r (now (size .exit))) (now (destination .exit)) ≡ written (now (form .entry)) (now (destination .entry))
+        ⌝ }
+    ensures layout { λ r. ⌜ Lays (now (form .entry)) (decodedWritten r (now (size .exit))) (now (destination .exit)) ⌝ }
+    ensures size { λ r. ⌜ Untouched r (now (size .entry)) (now (size .exit)) ⌝ }
+{
+    let answer = writer::write(form, destination);
+    match answer {
+        Written::Refused(n) => n,
+        Written::Bytes(n) => {
+            *size = n;
+            OK
+        }
+    }
+}
+
+// Fills a form with the fields of the table that the bytes are; a refusal leaves the form alone.
+#[no_mangle]
+pub extern "C" fn planner_read(table: &[u8], form: &mut [u8; FORM]) -> u8
+    ensures { λ r. ⌜ Filled·outcome (decodedVerdict r) (now (form .exit)) ≡ filled (now (table .entry)) (now (form .entry)) ⌝ }
+{
+    let verdict = form::fill(table, form);
+    match verdict {
+        Verdict::Refused(n) => n,
+        Verdict::Accepted => OK,
     }
 }

@@ -1,15 +1,16 @@
 -- Bytes that are written into a table one part after another.
 -- Assumes nothing.
-use Prim.Native.Nat.{ℕ, suc, _+_, _*_, _/_, _%_, _<_}
+use Prim.Native.Nat.{ℕ, suc, _+_, _*_, _%_, _<_}
 use native.Mathlib.Nat.{add-zero, mul-add}
 use native.Mathlib.Numerals.{add-one}
 use native.Mathlib.Omega.{arith}
 use mathlib.Core.Path.{_≡_, refl, sym, ap, ap₂, _∙_}
-use mathlib.Core.List.{List, [], _∷_, _++_, map, append-assoc, append-nil}
+use mathlib.Core.List.{List, [], _∷_, _++_, map, append-nil, map-append}
 use lib.ListN.{length, length-append, set}
 use lib.Seq.{sets, set-set, set-comm}
 use Rattle.table.specs.Fields.{amountOf}
 use Rattle.table.specs.Held.{flat, modeBytes, moveBytes}
+use Rattle.table.specs.Theorems.Holding.{flat-append, low-of, high-of}
 use Rattle.reader.specs.Step.{Wrote, WrotePriced, WroteResets}
 
 sets-append : (xs ys t : List ℕ) (at : ℕ) → sets t at (xs ++ ys) ≡ sets (sets t at xs) (at + length xs) ys
@@ -24,14 +25,6 @@ wrote-then {at = at} {t = t} {xs = xs} {ys = ys} v w = record {
   is = w .is ∙ ap₂ (λ (u : List ℕ) (k : ℕ). sets u (at + k) ys) (v .is) (sym (v .long)) ∙ sym (sets-append xs ys t at);
   long = omega (arith, length-append xs ys, v .long, w .long);
 }
-
-map-append : {A B : Type 0} (f : A → B) (l m : List A) → map f (l ++ m) ≡ map f l ++ map f m
-map-append f [] m = refl
-map-append f (a ∷ l) m = ap (λ (k : List _). f a ∷ k) (map-append f l m)
-
-flat-append : (l m : List (List ℕ)) → flat (l ++ m) ≡ flat l ++ flat m
-flat-append [] m = refl
-flat-append (a ∷ l) m = ap (λ (k : List ℕ). a ++ k) (flat-append l m) ∙ sym (append-assoc a (flat l) (flat m))
 
 flat-one : {A : Type 0} (g : A → List ℕ) (l : List A) (a : A) → flat (map g (l ++ a ∷ [])) ≡ flat (map g l) ++ g a
 flat-one g l a = ap flat (map-append g l (a ∷ [])) ∙ flat-append (map g l) (g a ∷ []) ∙ ap (λ (k : List ℕ). flat (map g l) ++ k) (append-nil (g a))
@@ -74,13 +67,6 @@ wrote-over {at = at} {t = t} xs y z ys w e =
           ∙ ap (λ (v : List ℕ). sets v (suc k) ys) (set-set u k y z) ∙ sym (sets-append xs (z ∷ ys) t at);
       long = omega (arith, length-append xs (y ∷ ys), length-append xs (z ∷ ys), w .long);
     }
-
--- The two bytes of a rate or price.
-low-of : (low high : ℕ) → low < 256 → amountOf low high % 256 ≡ low
-low-of low high h = omega arith
-
-high-of : (low high : ℕ) → low < 256 → amountOf low high / 256 ≡ high
-high-of low high h = omega arith
 
 -- The high byte of a mode record comes last.
 pub wrote-mode : {at low : ℕ} (high : ℕ) {t t′ t″ cs : List ℕ} → WrotePriced t at t′ (low, cs) → t″ ≡ set t′ (at + 1) high →

@@ -1,10 +1,10 @@
 // Single fields of a table: each function reads from a place on with one parser of the definitions.
-ghost use mathlib.Core.Path.{_≡_};
-ghost use Prim.Native.Nat.{_<_, _≤_, _^_};
+ghost use Prim.Native.Nat.{_<_, _≤_};
 ghost use Rattle.reader.specs.Format.{anyByte, within, ifStands, bitMap, resetByte};
 ghost use Rattle.reader.specs.Step.{GivesField, GivesWithin};
 use crate::ABSENT_TIMER;
 use crate::NO_BYTE_LEFT;
+use table::names;
 
 // What the functions give: a refusal's number or 0, the place of the next byte, and what was read.
 pub struct Field {
@@ -94,14 +94,6 @@ fn any_byte(bytes: &[u8], from: usize) -> Field
         next: from + 1,
         value: bytes[from],
     }
-}
-
-// Numbers below this one have bits for the first so many timers alone.
-fn names(timers: u8) -> u8
-    requires { ⌜ timers ≤ 3 ⌝ }
-    ensures { λ r. ⌜ r ≡ 2 ^ timers ⌝ }
-{
-    1u8 << timers
 }
 
 // A bit map, none of whose bits is for an absent timer.

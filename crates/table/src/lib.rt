@@ -1,6 +1,6 @@
 // Layer 1: a table as bytes at fixed offsets, and what is read from it.
 ghost use mathlib.Core.Path.{_≡_};
-ghost use Prim.Native.Nat.{_+_, _*_, _<_};
+ghost use Prim.Native.Nat.{_+_, _*_, _<_, _≤_, _^_};
 ghost use lib.ListN.{length, getD};
 ghost use Rattle.semantics.specs.Automaton.{timers, modeAt, moveAt};
 ghost use Rattle.table.specs.Fields.{mostTimers};
@@ -133,4 +133,12 @@ fn amount(table: &[u8; TABLE], at: usize) -> u16
     ensures { λ r. ⌜ r ≡ getD (now (table .entry)) at 0 + 256 * getD (now (table .entry)) (at + 1) 0 ⌝ }
 {
     table[at] as u16 + 256 * table[at + HIGH] as u16
+}
+
+// Numbers below this one have bits for the first so many timers alone.
+pub fn names(timers: u8) -> u8
+    requires { ⌜ timers ≤ 3 ⌝ }
+    ensures { λ r. ⌜ r ≡ 2 ^ timers ⌝ }
+{
+    1u8 << timers
 }

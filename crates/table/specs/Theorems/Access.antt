@@ -52,12 +52,16 @@ getD-all D (c ∷ l) h z zero = h c (List·Memᴰ.List·Memᴰ·head refl)
 getD-all D (c ∷ l) h z (suc i) = getD-all D l (λ d m. h d (List·Memᴰ.List·Memᴰ·tail m)) z i
 
 -- The record of a number.
-record-at : {A : Type 0} (one : List ℕ → A) (k n : ℕ) (t : List ℕ) (d : A) (i : ℕ) → i < n → getD (recordsFrom one k n t) i d ≡ one (drop (k * i) t)
+pub record-at : {A : Type 0} (one : List ℕ → A) (k n : ℕ) (t : List ℕ) (d : A) (i : ℕ) → i < n → getD (recordsFrom one k n t) i d ≡ one (drop (k * i) t)
 record-at one k zero t d i h = absurd (omega arith)
 record-at one k (suc n) t d zero h = ap (λ (j : ℕ). one (drop j t)) (sym (mul-zero k))
 record-at one k (suc n) t d (suc i) h =
     let further : k + k * i ≡ k * suc i = omega (arith, mul-suc k i) in
     record-at one k n (drop k t) d i (omega arith) ∙ ap one (drop-drop (k * i) k t ∙ ap (λ (j : ℕ). drop j t) further)
+
+pub record-count : {A : Type 0} (one : List ℕ → A) (k n : ℕ) (t : List ℕ) → length (recordsFrom one k n t) ≡ n
+record-count one k zero t = refl
+record-count one k (suc n) t = ap suc (record-count one k n (drop k t))
 
 -- The fields of a mode and of a move by their numbers, and the mode and the move.
 module _ (t : List ℕ) where

@@ -1,17 +1,21 @@
 -- The bytes that hold fields in their ranges are a table, and the fields are read from them again.
 -- Assumes nothing.
-use Prim.Native.Nat.{ℕ, _+_, _*_, _-_, _/_, _%_, _≤_}
+use Prim.Native.Nat.{ℕ, _*_, _-_, _/_, _%_, _≤_, _<_}
 use native.Mathlib.Nat.{suc-mul, zero-mul}
 use native.Mathlib.Omega.{arith}
 use mathlib.Core.Path.{_≡_, refl, sym, ap, ap₂, _∙_}
 use mathlib.Core.List.{List, [], _∷_, _++_, map, append-assoc, List·Memᴰ}
 use lib.ListN.{length, getD, take, drop, replicate, length-append, length-replicate}
 use lib.Seq.{take-at, drop-at, drop-drop, getD-at, take-append-seam}
-use Rattle.table.specs.Fields.{ModeFields, MoveFields, Fields}
+use Rattle.table.specs.Fields.{amountOf, ModeFields, MoveFields, Fields}
 use Rattle.table.specs.Held.{pad, flat, modeBytes, moveBytes, held, modeFrom, moveFrom, recordsFrom, fieldsOf, InRange, IsTable}
 
 pub length-pad : (n : ℕ) (l : List ℕ) → length l ≤ n → length (pad n l) ≡ n
 length-pad n l h = let behind = n - length l in omega (arith, length-append l (replicate behind 0), length-replicate {A = ℕ} behind 0)
+
+pub flat-append : (l m : List (List ℕ)) → flat (l ++ m) ≡ flat l ++ flat m
+flat-append [] m = refl
+flat-append (a ∷ l) m = ap (λ (k : List ℕ). a ++ k) (flat-append l m) ∙ sym (append-assoc a (flat l) (flat m))
 
 -- Records of one width, one after another: how long they are, and that each is read again.
 module _ {A : Type 0} (enc : A → List ℕ) (k : ℕ) where
@@ -26,7 +30,7 @@ module _ {A : Type 0} (enc : A → List ℕ) (k : ℕ) where
         suc-mul (length l) k,
       )
 
-  records-held : (one : List ℕ → A) (l : List A) (behind : List ℕ) → ((a : A) → List·Memᴰ a l → length (enc a) ≡ k) →
+  pub records-held : (one : List ℕ → A) (l : List A) (behind : List ℕ) → ((a : A) → List·Memᴰ a l → length (enc a) ≡ k) →
       ((a : A) → List·Memᴰ a l → (rest : List ℕ) → one (enc a ++ rest) ≡ a) → recordsFrom one k (length l) (flat (map enc l) ++ behind) ≡ l
   records-held one [] behind h e = refl
   records-held one (a ∷ l) behind h e =
@@ -43,8 +47,15 @@ mode-wide m h = omega arith
 move-wide : (e : MoveFields) → length (e .conditions) ≡ 6 → length (moveBytes e) ≡ 12
 move-wide e h = omega (arith, length-append (e .conditions) (e .resets ∷ 0 ∷ []))
 
-two-bytes : (a : ℕ) → a % 256 + 256 * (a / 256) ≡ a
+-- The two bytes of a rate or price.
+pub two-bytes : (a : ℕ) → amountOf (a % 256) (a / 256) ≡ a
 two-bytes a = omega arith
+
+pub low-of : (low high : ℕ) → low < 256 → amountOf low high % 256 ≡ low
+low-of low high h = omega arith
+
+pub high-of : (low high : ℕ) → low < 256 → amountOf low high / 256 ≡ high
+high-of low high h = omega arith
 
 mode-again : (m : ModeFields) → length (m .conditions) ≡ 6 → (rest : List ℕ) → modeFrom (modeBytes m ++ rest) ≡ m
 mode-again m h rest = λ i. record { rate = two-bytes (m .rate) i; conditions = take-at (m .conditions) rest 6 h i }

@@ -2,6 +2,7 @@
 -- Assumes nothing.
 use Prim.Native.Nat.{_-_}
 use Prim.{Unit}
+use lib.ListN.{length}
 use native.Mathlib.Omega.{arith}
 use Rattle.cases.proofs.plans.past_bytes.Statement.{statement}
 use Rattle.cases.proofs.plans.past_bytes.Tie as tie
@@ -10,13 +11,13 @@ abbrev Inv-loop : tie.InvT-loop
 Inv-loop bytes from x at₀ at = Unit {0}
 
 abbrev μ-loop : tie.MeasureT-loop
-μ-loop bytes from x at₀ at = 256 - at
+μ-loop bytes from x at₀ at = length bytes - at
 
 loop-holds : tie.Need-loop-holds Inv-loop μ-loop
 loop-holds c = tt
 
-element-copy-out-if1 : tie.Need-element-copy-out-if1 Inv-loop μ-loop
-element-copy-out-if1 c = omega arith
+shared-slice-read-if1 : tie.Need-shared-slice-read-if1 Inv-loop μ-loop
+shared-slice-read-if1 c = omega arith
 
 returns : tie.Need-returns Inv-loop μ-loop
 returns c = tt
@@ -34,4 +35,4 @@ returns-2 : tie.Need-returns-2 Inv-loop μ-loop
 returns-2 c = tt
 
 pub past-bytes-spec : {M : Type 1} → statement M
-past-bytes-spec = tie.close (tie.spec Inv-loop μ-loop loop-holds element-copy-out-if1 returns add-at loop-less loop-again returns-2)
+past-bytes-spec = tie.close (tie.spec Inv-loop μ-loop loop-holds shared-slice-read-if1 returns add-at loop-less loop-again returns-2)

@@ -1,0 +1,3 @@
+-- What writing gives.
+pub mod Written
+pub mod Theorems

@@ -1,14 +1,15 @@
 /*
- * The changeover planner: finds the least total charge with which a unit reaches its goal mode, and a route that comes to it
- * (planner_plan); and says before that how much memory to lend (planner_lend).
+ * The changeover planner: makes a unit's table from its fields (planner_write) and fields from a table (planner_read); says how much
+ * memory to lend for planning a table (planner_lend); and finds the least total charge with which the unit reaches its goal mode, and a
+ * route that comes to it (planner_plan).
  *
  * Link libplanner.a. For x86-64 `rt staticlib planner` writes it to target/staticlib/; for Cortex-M0+ and M4 `unit/build` writes it to
  * target/unit/m0plus/ and target/unit/m4/. It needs memcpy and memset, on Cortex-M also libgcc, no heap and no operating system: it works
  * in the memory that the caller lends, and on the stack (docs/BENCH.md and docs/UNIT.md say how much).
  *
- * The code of the calls is proved to do what is written here for every table and every length. What makes it into a library is not proved
- * but tested: the compiler and, for Cortex-M, the lines of C by which a size_t of 32 bits stands for the 64 bits of a length in the proved
- * code (docs/UNIT.md). A caller in C is checked by nobody: it must pass what the types below say.
+ * The code of the calls is proved to do what is written here for every table, form and length. What makes it into a library is not proved
+ * but tested: the compiler, the structs below, which are bytes to the proved code, and, for Cortex-M, the lines of C by which a size_t of
+ * 32 bits stands for the 64 bits of a length there (docs/UNIT.md). A caller in C is checked by nobody: it must pass what the types say.
  */
 #ifndef PLANNER_H
 #define PLANNER_H
@@ -23,13 +24,14 @@ extern "C" {
 /* What the calls return. */
 enum {
     PLANNER_ROUTE = 0, /* planner_plan: a route was found; its bytes, charge and number of steps are written */
-    PLANNER_OK = 0,    /* planner_lend: the words and route bytes are written */
+    PLANNER_OK = 0,    /* planner_lend, planner_write, planner_read: what was asked for is written */
 
-    /* Refusals 1 to 7: the bytes are no table. They are judged from the left, and the first fault decides among 1 to 5. */
+    /* Refusals 1 to 7: the bytes are no table. They are judged from the left, and the first fault decides among 1 to 5. Fields that are no
+       table's get 2 to 5 from planner_write, judged as the bytes that they would be. */
     PLANNER_BYTE_MISSING = 1,    /* a byte is needed and none is left */
     PLANNER_OUT_OF_RANGE = 2,    /* a count, goal or ceiling outside its range */
-    PLANNER_BIT_NOT_ALLOWED = 3, /* a map or reset bit for an absent timer, or reset bits 3 to 6 */
-    PLANNER_BAD_CONDITION = 4,   /* a condition code that is not 1 to 5 */
+    PLANNER_BIT_NOT_ALLOWED = 3, /* a map or reset bit for an absent timer, or reset bits 3 to 6 (in a form 3 to 7) */
+    PLANNER_BAD_CONDITION = 4,   /* a condition code that is not 1 to 5 (in a form also a value above 15) */
     PLANNER_NO_SUCH_MODE = 5,    /* a move's from or to mode is not below the number of modes */
     PLANNER_BYTES_LEFT_OVER = 6, /* bytes behind the last record */
     PLANNER_START_FAILS = 7,     /* mode 0's conditions fail with every timer at 0 */
@@ -40,6 +42,9 @@ enum {
 
     /* Refusal 10: there is a route, and it does not fit. */
     PLANNER_ROUTE_TOO_LONG = 10, /* the route has more steps than route bytes were lent */
+
+    /* Refusal 11: the fields are in order, and their table does not fit. */
+    PLANNER_DESTINATION_TOO_SHORT = 11, /* the table has more bytes than there is memory for it */
 
     PLANNER_NO_ROUTE = 255       /* no run comes into the goal mode, whatever its moves and its delays */
 };
@@ -52,6 +57,73 @@ enum {
     PLANNER_DELAY = 64,  /* wait until the timers' region is left */
     PLANNER_LINGER = 65  /* wait within it */
 };
+
+/* How many of each a table has at most. */
+enum {
+    PLANNER_MOST_MODES = 16,
+    PLANNER_MOST_TIMERS = 3,
+    PLANNER_MOST_MOVES = 64
+};
+
+/* The codes of a condition: how the timer has to compare with the value. */
+enum {
+    PLANNER_NO_CONDITION = 0, /* there is none in this place */
+    PLANNER_LESS = 1,
+    PLANNER_AT_MOST = 2,
+    PLANNER_EQUAL = 3,
+    PLANNER_AT_LEAST = 4,
+    PLANNER_GREATER = 5
+};
+
+/* The timers that a move sets to 0; several are joined by |. */
+enum {
+    PLANNER_RESET_0 = 1,
+    PLANNER_RESET_1 = 2,
+    PLANNER_RESET_2 = 4
+};
+
+/*
+ * A form: the fields of a table, for planner_write and planner_read. In one that is all 0 at first only what the table has need be set, and
+ * not what is 0 in it. What is called ignored here is so by planner_write, and planner_read makes it 0.
+ *
+ * A mode and a move, the two kinds of record, have room for two conditions on each timer: those on timer t are first[t] and further[t]. An
+ * only one may be in either, and all of them have to hold.
+ */
+struct planner_condition {
+    uint8_t code;  /* PLANNER_NO_CONDITION to PLANNER_GREATER */
+    uint8_t value; /* minutes, 0 to 15; ignored where there is no condition */
+};
+
+struct planner_mode {
+    uint16_t rate; /* the charge for a minute in the mode */
+    struct planner_condition first[PLANNER_MOST_TIMERS], further[PLANNER_MOST_TIMERS]; /* all the time that the unit is in the mode */
+};
+
+struct planner_move {
+    uint8_t from, to; /* modes, below the number of modes */
+    uint16_t price;   /* the charge for the move */
+    struct planner_condition first[PLANNER_MOST_TIMERS], further[PLANNER_MOST_TIMERS]; /* when the move is made, before its resets */
+    uint8_t resets;   /* the timers that it sets to 0: PLANNER_RESET_0, _1, _2; 0 for none */
+    uint8_t unused;   /* ignored */
+};
+
+struct planner_form {
+    uint8_t modes;                        /* 1 to 16; the unit starts in mode 0, with every timer at 0 */
+    uint8_t timers;                       /* 1 to 3 */
+    uint8_t moves;                        /* 0 to 64 */
+    uint8_t goal;                         /* the mode to reach, below the number of modes */
+    uint8_t ceiling[PLANNER_MOST_TIMERS]; /* what each timer may come to in any mode: minutes, 1 to 15; ignored for absent timers */
+    uint8_t unused;                       /* ignored */
+    struct planner_mode mode[PLANNER_MOST_MODES]; /* mode 0 first; those behind the number of modes are ignored */
+    struct planner_move move[PLANNER_MOST_MOVES]; /* move 0 first; those behind the number of moves are ignored */
+};
+
+/* To the proved code a form is 1,384 bytes, its 16-bit numbers lowest byte first. The fields alone have as many, so in a struct of that
+   size there is nothing between them. */
+typedef char planner_form_has_1384_bytes[sizeof(struct planner_form) == 1384 ? 1 : -1];
+#if defined __BYTE_ORDER__ && __BYTE_ORDER__ != __ORDER_LITTLE_ENDIAN__
+#error "the planner is for targets that have the lowest byte of a number first"
+#endif
 
 /*
  * What holds for every call: no pointer may be null, also where a length is 0, and no two pieces of memory that are passed may overlap. A
@@ -97,6 +169,42 @@ uint8_t planner_plan(const uint8_t *table, size_t table_len,
  */
 uint8_t planner_lend(const uint8_t *table, size_t table_len,
                      size_t *words_needed, size_t *route_needed);
+
+/*
+ * Writes the table that has a form's fields.
+ *
+ * form              The fields. They are read only, and never altered.
+ * table, table_len  Memory for the table; PLANNER_LONGEST_TABLE bytes are enough for every form. After PLANNER_OK the first *written bytes
+ *                   are the table and the others are untouched; after every other answer all of it is untouched.
+ * written           After PLANNER_OK the table's number of bytes; otherwise untouched.
+ *
+ * No zero byte of a rate or price is written, neither a low nor a high one. An only condition on a timer goes to the first of its two
+ * places in the record, and two keep their order. A reset byte is written only if it names a timer or announces a high byte.
+ *
+ * Refusals are in the order of the bytes. First PLANNER_OUT_OF_RANGE for a count, the goal or a ceiling. Then, in the modes and after them
+ * in the moves, each record's faults before those of the next: PLANNER_BIT_NOT_ALLOWED for a condition on an absent timer,
+ * PLANNER_NO_SUCH_MODE, PLANNER_BAD_CONDITION, PLANNER_BIT_NOT_ALLOWED for the resets. Last, if everything else is in order,
+ * PLANNER_DESTINATION_TOO_SHORT. There are no others.
+ *
+ * planner_plan reads exactly these fields from what is written. It can still refuse them: by PLANNER_START_FAILS or
+ * PLANNER_TOO_MANY_NODES, or for the memory that it is lent.
+ */
+uint8_t planner_write(const struct planner_form *form,
+                      uint8_t *table, size_t table_len,
+                      size_t *written);
+
+/*
+ * Reads a table into a form, to show its fields or to change some and write it again.
+ *
+ * table, table_len  The table's bytes, as for planner_plan.
+ * form              After PLANNER_OK the table's fields, with each condition in the place that it has in the table, and 0 in every byte
+ *                   that is no field of this table; otherwise untouched.
+ *
+ * Refusals 1 to 7 are those of planner_plan for the same bytes, and there are no others. A table that planner_write wrote yields the same
+ * bytes when it is read and written again; of other tables the same fields are written, in the bytes that planner_write has for them.
+ */
+uint8_t planner_read(const uint8_t *table, size_t table_len,
+                     struct planner_form *form);
 
 #ifdef __cplusplus
 }

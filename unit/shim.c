@@ -1,7 +1,8 @@
 /*
  * The calls of planner.h where size_t has 32 bits. In the proved code every length has 64: wide.h, written from the
  * bitcode, declares the calls as they are there. A length that is passed is widened by C's rules. One that is given back
- * comes through a variable of 64 bits, and fits: it is no more than a length that was passed, or 131,072.
+ * comes through a variable of 64 bits, and fits: it is no more than a length that was passed, or 131,072. A form has no
+ * length: it is the same 1,384 bytes to both.
  */
 #include "planner.h"
 #include "wide.h"
@@ -34,4 +35,23 @@ uint8_t planner_lend(const uint8_t *table, size_t table_len,
         *route_needed = (size_t)wide_route;
     }
     return answer;
+}
+
+uint8_t planner_write(const struct planner_form *form,
+                      uint8_t *table, size_t table_len,
+                      size_t *written)
+{
+    uint64_t wide_written = 0;
+    uint8_t answer = wide_planner_write(form, table, table_len, &wide_written);
+
+    if (answer == PLANNER_OK) {
+        *written = (size_t)wide_written;
+    }
+    return answer;
+}
+
+uint8_t planner_read(const uint8_t *table, size_t table_len,
+                     struct planner_form *form)
+{
+    return wide_planner_read(table, table_len, form);
 }

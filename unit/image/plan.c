@@ -1,7 +1,8 @@
 /*
  * Plans every table on standard input (16 bits of length, the lower byte first, then the bytes) with what the unit lends,
- * and prints what `plan` prints. Before that it asks how much to lend, and holds the two to each other. Around every call
- * it checks each rule of planner.h on the memory. At the end standard error has the most stack that a call used.
+ * and prints what `plan` prints. Before that it asks how much to lend, and holds the two to each other. Afterwards it
+ * reads the table into a form, writes that, and holds what is written to the table. Around every call it checks each rule
+ * of planner.h on the memory. At the end standard error has the most stack that a call used.
  */
 #include "planner.h"
 #include <stdlib.h>
@@ -10,12 +11,23 @@
 
 enum { WORDS = 6000, ROUTE = 256, INPUT = PLANNER_LONGEST_TABLE + 1, GUARD = 8 };
 
-/* What is lent, between guards. Before a call every element has a value of its own. */
-static uint32_t words[GUARD + WORDS + GUARD];
+/* What is lent, between guards. Before a call every element has a value of its own. A form, and the destination when
+   it is written, lie where the words do, since no call takes both. */
+static union {
+    uint32_t words[GUARD + WORDS + GUARD];
+    struct {
+        uint8_t before[GUARD];
+        struct planner_form form;
+        uint8_t between[GUARD], destination[PLANNER_LONGEST_TABLE], behind[GUARD];
+    };
+} memory;
+static uint8_t *const bytes = (uint8_t *)&memory;
+enum { FORM = GUARD, BETWEEN = FORM + sizeof memory.form, DESTINATION = BETWEEN + GUARD };
+enum { ALL_WORDS = GUARD + WORDS + GUARD, ALL_BYTES = DESTINATION + PLANNER_LONGEST_TABLE + GUARD };
 static uint8_t route[GUARD + ROUTE + GUARD];
 static uint8_t table[GUARD + INPUT + GUARD];
 static uint32_t charge[3];
-static size_t steps[3], words_needed[3], route_needed[3];
+static size_t steps[3], words_needed[3], route_needed[3], written[3];
 
 static size_t most_stack;
 
@@ -57,16 +69,36 @@ static size_t words_of_table(void)
     return 2 * e;
 }
 
-enum which { PLAN, LEND };
+enum which { PLAN, LEND, WRITE, READ };
 
-/* Makes a call with the answer read as the whole register, since a caller may rely on bits 8 to 31 being 0, and with the
-   stack below filled, to see how much is used. */
-static __attribute__((noinline)) uint32_t call(enum which which, size_t table_len, size_t words_len, size_t route_len)
+/* The answer is read as the whole register, since a caller may rely on bits 8 to 31 being 0. The length of a destination
+   comes as table_len. This is inlined, since a frame of its own would count as the call's. */
+static inline __attribute__((always_inline)) uint32_t
+answer_of(enum which which, size_t table_len, size_t words_len, size_t route_len)
 {
     typedef uint32_t plan_register(const uint8_t *, size_t, uint32_t *, size_t, uint8_t *, size_t, uint32_t *, size_t *);
     typedef uint32_t lend_register(const uint8_t *, size_t, size_t *, size_t *);
+    typedef uint32_t write_register(const struct planner_form *, uint8_t *, size_t, size_t *);
+    typedef uint32_t read_register(const uint8_t *, size_t, struct planner_form *);
     plan_register *volatile plan = (plan_register *)(void (*)(void))planner_plan;
     lend_register *volatile lend = (lend_register *)(void (*)(void))planner_lend;
+    write_register *volatile to_table = (write_register *)(void (*)(void))planner_write;
+    read_register *volatile to_form = (read_register *)(void (*)(void))planner_read;
+
+    switch (which) {
+    case PLAN:
+        return plan(table + GUARD, table_len, memory.words + GUARD, words_len,
+                    route + GUARD, route_len, charge + 1, steps + 1);
+    case LEND: return lend(table + GUARD, table_len, words_needed + 1, route_needed + 1);
+    case WRITE: return to_table(&memory.form, memory.destination, table_len, written + 1);
+    case READ: return to_form(table + GUARD, table_len, &memory.form);
+    }
+    return 0;
+}
+
+/* Makes a call with the stack below filled, to see how much is used. */
+static __attribute__((noinline)) uint32_t call(enum which which, size_t table_len, size_t words_len, size_t route_len)
+{
     const uint32_t unused = 0xA5A5A5A5u;
     volatile uint32_t *const limit = sbrk(0), *sp, *p; /* below the limit newlib keeps what its input and output need */
     uint32_t answer;
@@ -75,12 +107,7 @@ static __attribute__((noinline)) uint32_t call(enum which which, size_t table_le
     for (p = limit; p < sp; p++) {
         *p = unused;
     }
-    if (which == PLAN) {
-        answer = plan(table + GUARD, table_len, words + GUARD, words_len,
-                      route + GUARD, route_len, charge + 1, steps + 1);
-    } else {
-        answer = lend(table + GUARD, table_len, words_needed + 1, route_needed + 1);
-    }
+    answer = answer_of(which, table_len, words_len, route_len);
     for (p = limit; p < sp && *p == unused; p++) {
     }
     require(p > limit, "stack: all of it was used");
@@ -93,10 +120,10 @@ static __attribute__((noinline)) uint32_t call(enum which which, size_t table_le
 static void spoil(uint32_t *answer)
 {
     switch ((uintptr_t)put_in) {
-    case 1: words[GUARD - 1]++; break;
-    case 2: words[GUARD]++; break;
-    case 3: words[GUARD + WORDS - 1]++; break;
-    case 4: words[GUARD + WORDS]++; break;
+    case 1: memory.words[GUARD - 1]++; break;
+    case 2: memory.words[GUARD]++; break;
+    case 3: memory.words[GUARD + WORDS - 1]++; break;
+    case 4: memory.words[GUARD + WORDS]++; break;
     case 5: route[GUARD - 1]++; break;
     case 6: route[GUARD + ROUTE - 1]++; break;
     case 7: route[GUARD + ROUTE]++; break;
@@ -110,6 +137,40 @@ static void spoil(uint32_t *answer)
     case 15: route_needed[1]--; break;
     case 16: words_needed[2]++; break;
     case 17: route_needed[0]++; break;
+    }
+}
+
+static void spoil_writing(uint32_t *answer)
+{
+    int good = *answer == PLANNER_OK;
+
+    switch ((uintptr_t)put_in) {
+    case 18: bytes[DESTINATION - 1]++; break;
+    case 19: bytes[DESTINATION] += !good; break;
+    case 20: bytes[DESTINATION + written[1] * good] += good; break;
+    case 21: bytes[DESTINATION + written[1] * good - 1] ^= good; break;
+    case 22: written[0]++; break;
+    case 23: written[1] += !good; break;
+    case 24: written[1] -= good; break;
+    case 25: memory.form.goal ^= 1; break;
+    case 26: *answer |= 256; break;
+    }
+}
+
+static void spoil_reading(uint32_t *answer)
+{
+    int good = *answer == PLANNER_OK;
+
+    switch ((uintptr_t)put_in) {
+    case 27: bytes[FORM - 1]++; break;
+    case 28: bytes[BETWEEN]++; break;
+    case 29: memory.form.modes += !good; break;
+    case 30: memory.form.unused += good; break;
+    case 31: memory.form.move[PLANNER_MOST_MOVES - 1].resets += good; break;
+    case 32: memory.form.mode[0].rate += good; break;
+    case 33: memory.form.goal *= !good; break;
+    case 34: table[GUARD]++; break;
+    case 35: *answer |= 256; break;
     }
 }
 
@@ -140,11 +201,11 @@ static uint8_t lend(size_t table_len)
 
 static uint8_t plan(size_t table_len, size_t words_len, size_t route_len)
 {
-    size_t i, zeros = 0, written = 0;
+    size_t i, zeros = 0, length = 0;
     uint32_t answer, sum = checksum(table, sizeof table);
 
-    for (i = 0; i < sizeof words / sizeof *words; i++) {
-        words[i] = word_before(i);
+    for (i = 0; i < ALL_WORDS; i++) {
+        memory.words[i] = word_before(i);
     }
     for (i = 0; i < sizeof route; i++) {
         route[i] = byte_before(i);
@@ -158,19 +219,19 @@ static uint8_t plan(size_t table_len, size_t words_len, size_t route_len)
     require(answer <= 10 || answer == PLANNER_NO_ROUTE, "answer: none of those that there are");
     require(checksum(table, sizeof table) == sum, "table: altered");
     if (answer == PLANNER_ROUTE) {
-        written = steps[1];
-        require(written <= route_len, "steps: more than route bytes");
+        length = steps[1];
+        require(length <= route_len, "steps: more than route bytes");
     }
     if (answer == PLANNER_ROUTE || answer == PLANNER_NO_ROUTE || answer == PLANNER_ROUTE_TOO_LONG) {
         zeros = words_of_table();
         require(zeros <= words_len, "words: fewer than 2E were lent");
     }
-    for (i = 0; i < sizeof words / sizeof *words; i++) {
+    for (i = 0; i < ALL_WORDS; i++) {
         int cleared = i >= GUARD && i < GUARD + zeros;
-        require(words[i] == (cleared ? 0 : word_before(i)), "words: not cleared, or not untouched");
+        require(memory.words[i] == (cleared ? 0 : word_before(i)), "words: not cleared, or not untouched");
     }
     for (i = 0; i < sizeof route; i++) {
-        int step = i >= GUARD && i < GUARD + written;
+        int step = i >= GUARD && i < GUARD + length;
         require(step || route[i] == byte_before(i), "route: touched beyond the steps");
     }
     for (i = 0; i < 3; i++) {
@@ -178,6 +239,145 @@ static uint8_t plan(size_t table_len, size_t words_len, size_t route_len)
         require(given || (charge[i] == word_before(i) && steps[i] == word_before(i)), "charge or steps: touched");
     }
     return (uint8_t)answer;
+}
+
+/* Writes the table of the form into so many bytes. */
+static uint8_t write_form(size_t room)
+{
+    size_t i, length = 0;
+    uint32_t answer, sum = checksum(bytes + FORM, sizeof memory.form);
+
+    for (i = BETWEEN; i < ALL_BYTES; i++) {
+        bytes[i] = byte_before(i);
+    }
+    for (i = 0; i < 3; i++) {
+        written[i] = word_before(i);
+    }
+    answer = call(WRITE, room, 0, 0);
+    spoil_writing(&answer);
+
+    require(answer == PLANNER_OK || (answer >= PLANNER_OUT_OF_RANGE && answer <= PLANNER_NO_SUCH_MODE) ||
+            answer == PLANNER_DESTINATION_TOO_SHORT, "write: an answer that is none of those that there are");
+    require(checksum(bytes + FORM, sizeof memory.form) == sum, "write: the form is altered");
+    if (answer == PLANNER_OK) {
+        length = written[1];
+        require(length <= room, "write: more bytes than room");
+    }
+    for (i = BETWEEN; i < ALL_BYTES; i++) {
+        int given = i >= DESTINATION && i < DESTINATION + length;
+        require(given || bytes[i] == byte_before(i), "write: touched beyond the table");
+    }
+    for (i = 0; i < 3; i++) {
+        int given = i == 1 && answer == PLANNER_OK;
+        require(given || written[i] == word_before(i), "write: the number of bytes is touched");
+    }
+    return (uint8_t)answer;
+}
+
+/* Reads the table into the form. */
+static uint8_t read_form(size_t table_len)
+{
+    size_t i;
+    uint32_t answer, sum = checksum(table, sizeof table);
+
+    for (i = 0; i < ALL_BYTES; i++) {
+        bytes[i] = byte_before(i);
+    }
+    answer = call(READ, table_len, 0, 0);
+    spoil_reading(&answer);
+
+    require(answer <= PLANNER_START_FAILS, "read: an answer that is none of those that there are");
+    require(checksum(table, sizeof table) == sum, "read: the table is altered");
+    for (i = 0; i < ALL_BYTES; i++) {
+        int given = answer == PLANNER_OK && i >= FORM && i < BETWEEN;
+        require(given || bytes[i] == byte_before(i), "read: touched beyond the form, or by a refusal");
+    }
+    return (uint8_t)answer;
+}
+
+static int all_zero(const void *from, const void *to)
+{
+    for (const uint8_t *byte = from; byte < (const uint8_t *)to; byte++) {
+        if (*byte) {
+            return 0;
+        }
+    }
+    return 1;
+}
+
+/* The conditions of a record that was read: a place without one is all 0. An only one goes to the first place, as it does
+   in writing. */
+static void settle(struct planner_condition *first, struct planner_condition *further)
+{
+    for (size_t i = 0; i < PLANNER_MOST_TIMERS; i++) {
+        require(first[i].code || !first[i].value, "read: a value without a condition");
+        require(further[i].code || !further[i].value, "read: a value without a further condition");
+        if (!first[i].code) {
+            first[i] = further[i];
+            further[i].code = further[i].value = 0;
+        }
+    }
+}
+
+/* The form that was read: what is no field is 0. The conditions go where they are when what is written is read. */
+static void settle_form(void)
+{
+    struct planner_form *form = &memory.form;
+
+    require(all_zero(form->ceiling + form->timers, form->mode), "read: not 0 behind the last ceiling");
+    require(all_zero(form->mode + form->modes, form->move), "read: not 0 behind the last mode");
+    require(all_zero(form->move + form->moves, form + 1), "read: not 0 behind the last move");
+    for (size_t i = 0; i < form->modes; i++) {
+        settle(form->mode[i].first, form->mode[i].further);
+    }
+    for (size_t i = 0; i < form->moves; i++) {
+        require(form->move[i].unused == 0, "read: not 0 at the end of a move");
+        settle(form->move[i].first, form->move[i].further);
+    }
+}
+
+/* The table is in the form. Puts what is written from there in the table's place, and returns its length: it has the same
+   fields, from which the same bytes are written again where there is just room for them, and none with a byte less. */
+static size_t write_again(size_t table_len)
+{
+    uint32_t sum;
+    size_t length;
+
+    require(write_form(PLANNER_LONGEST_TABLE) == PLANNER_OK, "write: what was read is refused");
+    length = written[1];
+    require(length <= table_len, "write: longer than the table");
+    memcpy(table + GUARD, memory.destination, length);
+    settle_form();
+    sum = checksum(bytes + FORM, sizeof memory.form);
+
+    require(read_form(length) == PLANNER_OK, "write: refused when it is read");
+    require(checksum(bytes + FORM, sizeof memory.form) == sum, "write: other fields");
+    require(write_form(length) == PLANNER_OK && written[1] == length &&
+            memcmp(table + GUARD, memory.destination, length) == 0, "write: not the same bytes again");
+    require(write_form(length - 1) == PLANNER_DESTINATION_TOO_SHORT, "write: a byte too few");
+    memory.form.goal = memory.form.modes;
+    require(write_form(0) == PLANNER_OUT_OF_RANGE, "write: the goal is no mode");
+    return length;
+}
+
+/* What the latest planning gave. */
+static uint32_t outcome(void)
+{
+    return checksum(route, sizeof route) ^ checksum((const uint8_t *)charge, sizeof charge) ^
+           checksum((const uint8_t *)steps, sizeof steps);
+}
+
+/* Reading refuses what planning refuses by 1 to 7. What is written from any other table is planned as that is. */
+static void plan_what_is_written(size_t table_len, uint8_t planned, uint32_t given)
+{
+    uint8_t answer = read_form(table_len);
+
+    require(answer == (planned <= PLANNER_START_FAILS ? planned : PLANNER_OK),
+            "read: another refusal than that of planning");
+    if (answer == PLANNER_OK) {
+        answer = plan(write_again(table_len), WORDS, ROUTE);
+        require(answer == planned && outcome() == given, "write: what is written is planned otherwise");
+    }
 }
 
 static char line[32 + 4 * ROUTE];
@@ -263,6 +463,7 @@ static int get(uint8_t *to, size_t n)
 int main(void)
 {
     uint8_t length[2], lent, answer;
+    uint32_t given;
 
     while (get(length, 2)) {
         size_t n = length[0] + 256u * length[1];
@@ -271,11 +472,13 @@ int main(void)
         require(get(table + GUARD, n), "input: a table is cut off");
         lent = lend(n);
         answer = plan(n, WORDS, ROUTE);
+        given = outcome();
         hold_to_each_other(lent, answer);
         tell(answer);
         if (answer == PLANNER_ROUTE) {
             plan_at_the_limits(n);
         }
+        plan_what_is_written(n, answer, given);
     }
     text("stack ");
     number((uint32_t)most_stack);

@@ -1,6 +1,8 @@
-//! Holds the proved planner to the independent one, to the paper's algorithm and to runs.
+//! Holds the proved planner to the independent one, to the paper's algorithm and to runs; and the proved
+//! writer to the independent one.
 
 use crate::dijkstra::{self, Answer};
+use crate::forms;
 use crate::generate::{case, Case, Kind};
 use crate::lend::{self, Needs};
 use crate::memory::{zeroed, Memory};
@@ -19,7 +21,8 @@ pub fn run(seed: u64, count: u64) -> ExitCode {
     let mut tally = Tally::default();
     for index in 0..count {
         let case = case(seed, index);
-        if let Err(difference) = check(&case, &mut tally) {
+        let checked = check(&case, &mut tally).and_then(|()| forms::check(&case, &mut tally.forms));
+        if let Err(difference) = checked {
             let hex: String = case.table.iter().map(|byte| format!(" {byte:02x}")).collect();
             println!(
                 "DIFFERENCE: seed {seed}, case {index}, {:?}\ntable{hex}\n{difference}",
@@ -51,6 +54,7 @@ struct Tally {
     searched: u64,
     gave_up: u64,
     held_to_runs: u64,
+    forms: forms::Tally,
 }
 
 impl Tally {
@@ -85,6 +89,7 @@ impl Tally {
         let held = self.searched - self.gave_up;
         println!("held to the paper's algorithm: {held} (it gave up on {} more)", self.gave_up);
         println!("held to runs: {}", self.held_to_runs);
+        self.forms.print();
     }
 }
 
@@ -195,10 +200,13 @@ mod tests {
     fn a_few_cases() {
         let mut tally = Tally::default();
         for index in 0..2_000 {
-            assert_eq!(check(&case(3, index), &mut tally), Ok(()), "case {index}");
+            let case = case(3, index);
+            assert_eq!(check(&case, &mut tally), Ok(()), "case {index}");
+            assert_eq!(forms::check(&case, &mut tally.forms), Ok(()), "case {index}");
         }
         assert!(tally.refused.keys().copied().eq(1..=10));
         assert!(tally.no_route > 0 && tally.routes.len() > 4 && tally.with_linger > 0);
         assert!(tally.with_high > 300 && tally.charged_above_65_535 > 10);
+        assert!(tally.forms.is_varied());
     }
 }

@@ -45,6 +45,14 @@ impl Json {
             other => Err(format!("{name} is no text: {other:?}")),
         }
     }
+
+    /// The field that is a list.
+    pub fn list(&self, name: &str) -> Result<&[Json], String> {
+        match self.field(name)? {
+            Json::List(list) => Ok(list),
+            other => Err(format!("{name} is no list: {other:?}")),
+        }
+    }
 }
 
 fn value(rest: &mut Chars) -> Result<Json, String> {
@@ -145,8 +153,8 @@ mod tests {
         assert_eq!(read.field("a"), Ok(&list));
         assert_eq!(read.field("b"), Ok(&Json::Object(vec![])));
         assert_eq!(read.text("c"), Ok("x y"));
-        assert_eq!(read.field("d"), Ok(&Json::List(vec![])));
-        assert!(read.number("c").is_err() && read.field("e").is_err());
+        assert_eq!(read.list("d"), Ok(&[][..]));
+        assert!(read.number("c").is_err() && read.list("c").is_err() && read.field("e").is_err());
     }
 
     #[test]

@@ -1,11 +1,16 @@
-//! Cross-checks the proved planner against two independent ones, and measures all three.
+//! Cross-checks the proved planner against two independent ones, and measures all three; and the proved
+//! writer of tables against an independent one.
 
 mod bench;
 mod blocks;
+mod c_form;
 mod call;
 mod charge;
 mod dijkstra;
 mod draft;
+mod drawn_form;
+mod form;
+mod forms;
 mod fuzz;
 mod generate;
 mod grid;
@@ -22,11 +27,14 @@ mod shape;
 mod table;
 mod vectors;
 mod worst;
+mod writer;
+mod writing;
 
 use std::process::ExitCode;
 
 const USAGE: &str = "usage:
-  peer fuzz SEED COUNT   compare the planners on COUNT tables drawn from SEED
+  peer fuzz SEED COUNT   compare the planners on COUNT tables drawn from SEED, and the writers on these
+                         and on as many forms
   peer vectors FILE..    run the calls of the files, and compare their answers with those that they tell
   peer bench             measure the planners on the tables of the folder tables
   peer worst SEED SECONDS [TIMERS]

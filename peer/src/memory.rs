@@ -23,10 +23,10 @@ pub struct Memory {
     returned: u8,
 }
 
-const GUARD_BYTES: usize = 32;
+pub const GUARD_BYTES: usize = 32;
 const GUARD_WORDS: usize = 16;
 /// No call returns this.
-const NOT_CALLED: u8 = 254;
+pub const NOT_CALLED: u8 = 254;
 
 impl Memory {
     pub fn new(table: &[u8], words: usize, route_bytes: usize, random: &mut Random) -> Memory {
@@ -86,13 +86,13 @@ impl Memory {
 }
 
 /// What lies between the guards.
-fn inside<T>(memory: &mut [T], guard: usize) -> &mut [T] {
+pub fn inside<T>(memory: &mut [T], guard: usize) -> &mut [T] {
     let end = memory.len() - guard;
     &mut memory[guard..end]
 }
 
 /// The first place that differs, counted from the first that is lent.
-fn first_unlike<T: PartialEq + std::fmt::Debug>(
+pub fn first_unlike<T: PartialEq + std::fmt::Debug>(
     what: &str,
     guard: usize,
     must: &[T],

@@ -1,7 +1,9 @@
 //! The proved planner, called through its C interface.
 
+use crate::c_form::Form;
+
 /// What the calls return for a route, and for what else was asked for. Refusals return their number,
-/// 1 to 10.
+/// 1 to 11.
 pub const ROUTE: u8 = 0;
 pub const OK: u8 = 0;
 /// What planning returns if no chain comes into the goal.
@@ -25,6 +27,15 @@ extern "C" {
         words_needed: *mut usize,
         route_needed: *mut usize,
     ) -> u8;
+
+    fn planner_write(
+        form: *const Form,
+        table: *mut u8,
+        table_len: usize,
+        written: *mut usize,
+    ) -> u8;
+
+    fn planner_read(table: *const u8, table_len: usize, form: *mut Form) -> u8;
 }
 
 /// Plans the table with the words and route bytes lent. `charge` and `steps` are written if the
@@ -59,4 +70,16 @@ pub fn plan(
 pub fn lend(table: &[u8], words_needed: &mut usize, route_needed: &mut usize) -> u8 {
     // Sound: as above.
     unsafe { planner_lend(table.as_ptr(), table.len(), words_needed, route_needed) }
+}
+
+/// Writes the table of a form. `table` and `written` are written if the answer is `OK`, and only then.
+pub fn write(form: &Form, table: &mut [u8], written: &mut usize) -> u8 {
+    // Sound: as above; and the form is laid out as C has it.
+    unsafe { planner_write(form, table.as_mut_ptr(), table.len(), written) }
+}
+
+/// Reads a table into the form, which is written if the answer is `OK`, and only then.
+pub fn read(table: &[u8], form: &mut Form) -> u8 {
+    // Sound: as above; and every form of bytes is one.
+    unsafe { planner_read(table.as_ptr(), table.len(), form) }
 }

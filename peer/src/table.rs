@@ -1,5 +1,7 @@
 //! A table as document 01 defines it, with the high bytes of request N2, read from its bytes.
 
+use crate::form::{self, Conditions, Form};
+
 /// A condition on a timer: `code` 1 to 5 is <, ≤, =, ≥, >.
 #[derive(Clone, Debug, PartialEq, Eq)]
 pub struct Condition {
@@ -37,11 +39,47 @@ pub struct Table {
 }
 
 impl Table {
+    /// The table of fields that are in order.
+    fn of(form: &Form) -> Table {
+        let mode = |mode: &form::Mode| Mode {
+            rate: mode.rate.into(),
+            conditions: by_rising_bit(&mode.conditions),
+        };
+        let step = |step: &form::Move| Move {
+            from: step.from.into(),
+            to: step.to.into(),
+            price: step.price.into(),
+            conditions: by_rising_bit(&step.conditions),
+            resets: (0..3).filter(|timer| step.resets >> timer & 1 == 1).collect(),
+        };
+        Table {
+            goal: form.goal.into(),
+            ceilings: form.ceilings[..form.timers.into()].iter().map(|&c| c.into()).collect(),
+            modes: form.modes.iter().map(mode).collect(),
+            moves: form.moves.iter().map(step).collect(),
+        }
+    }
+
     /// All rates and prices.
     pub fn charges(&self) -> impl Iterator<Item = u32> + '_ {
         let prices = self.moves.iter().map(|step| step.price);
         self.modes.iter().map(|mode| mode.rate).chain(prices)
     }
+}
+
+/// The conditions of a record: all first places, then all further ones.
+fn by_rising_bit(conditions: &Conditions) -> Vec<Condition> {
+    let mut list = Vec::new();
+    for place in [0, 1] {
+        for (timer, places) in conditions.iter().enumerate() {
+            let condition = |given: form::Condition| {
+                let form::Condition { code, value } = given;
+                Condition { timer, code, value: value.into() }
+            };
+            list.extend(places[place].map(condition));
+        }
+    }
+    list
 }
 
 /// The bytes of a table, taken from the left.
@@ -91,33 +129,33 @@ impl Reader<'_> {
     }
 
     /// A from or to mode.
-    fn mode(&mut self) -> Result<usize, u8> {
+    fn mode(&mut self) -> Result<u8, u8> {
         let mode = self.byte()?;
         if mode < self.modes {
-            Ok(mode.into())
+            Ok(mode)
         } else {
             Err(5)
         }
     }
 
     /// The low byte of a rate or price, 0 if it is missing.
-    fn low(&mut self, map: u8) -> Result<u32, u8> {
+    fn low(&mut self, map: u8) -> Result<u16, u8> {
         if map & 1 == 0 {
             return Ok(0);
         }
         Ok(self.byte()?.into())
     }
 
-    fn conditions(&mut self, map: u8) -> Result<Vec<Condition>, u8> {
-        let mut conditions = Vec::new();
+    fn conditions(&mut self, map: u8) -> Result<Conditions, u8> {
+        let mut conditions = Conditions::default();
         for bit in (1..7).filter(|bit| map >> bit & 1 == 1) {
             let byte = self.byte()?;
             let code = byte / 16;
             if !(1..=5).contains(&code) {
                 return Err(4);
             }
-            let value = u32::from(byte % 16);
-            conditions.push(Condition { timer: (bit - 1) % 3, code, value });
+            let condition = form::Condition { code, value: byte % 16 };
+            conditions[(bit - 1) % 3][(bit - 1) / 3] = Some(condition);
         }
         Ok(conditions)
     }
@@ -131,54 +169,63 @@ impl Reader<'_> {
     }
 
     /// What the high byte adds to a rate or price, if these bits announce one.
-    fn high(&mut self, bits: u8) -> Result<u32, u8> {
+    fn high(&mut self, bits: u8) -> Result<u16, u8> {
         if bits & LAST == 0 {
             return Ok(0);
         }
-        Ok(256 * u32::from(self.byte()?))
+        Ok(256 * u16::from(self.byte()?))
     }
 }
 
 /// Reads a table, or gives the number of the first refusal among 1 to 7.
 pub fn read(bytes: &[u8]) -> Result<Table, u8> {
+    read_form(bytes).map(|form| Table::of(&form))
+}
+
+/// Reads the fields of a table, every condition in the place where it stands, or gives that number.
+pub fn read_form(bytes: &[u8]) -> Result<Form, u8> {
     let mut reader = Reader { bytes: bytes.iter(), timers: 0, modes: 0 };
     reader.modes = reader.within(1, 16)?;
     reader.timers = reader.within(1, 3)?;
-    let moves = reader.within(0, 64)?;
-    let mut table = Table { goal: reader.within(0, reader.modes - 1)?.into(), ..Table::default() };
-    for _ in 0..reader.timers {
-        table.ceilings.push(reader.within(1, 15)?.into());
+    let mut form = Form {
+        mode_count: reader.modes,
+        timers: reader.timers,
+        move_count: reader.within(0, 64)?,
+        goal: reader.within(0, reader.modes - 1)?,
+        ..Form::default()
+    };
+    for timer in 0..form.timers {
+        form.ceilings[usize::from(timer)] = reader.within(1, 15)?;
     }
-    for _ in 0..reader.modes {
+    for _ in 0..form.mode_count {
         let map = reader.map()?;
         let low = reader.low(map)?;
         let conditions = reader.conditions(map)?;
         let rate = low + reader.high(map)?;
-        table.modes.push(Mode { rate, conditions });
+        form.modes.push(form::Mode { rate, conditions });
     }
-    for _ in 0..moves {
+    for _ in 0..form.move_count {
         let map = reader.map()?;
         let (from, to) = (reader.mode()?, reader.mode()?);
         let low = reader.low(map)?;
         let conditions = reader.conditions(map)?;
         let resets = reader.resets(map)?;
         let price = low + reader.high(resets)?;
-        let resets = (0..3).filter(|timer| resets >> timer & 1 == 1).collect();
-        table.moves.push(Move { from, to, price, conditions, resets });
+        form.moves.push(form::Move { from, to, price, conditions, resets: resets & !LAST });
     }
     if reader.bytes.len() > 0 {
         return Err(6);
     }
-    let holds_at_zero = |condition: &Condition| match condition.code {
+    let holds_at_zero = |condition: &form::Condition| match condition.code {
         1 => condition.value > 0,
         2 => true,
         3 | 4 => condition.value == 0,
         _ => false,
     };
-    if !table.modes[0].conditions.iter().all(holds_at_zero) {
+    if !form.modes[0].conditions.iter().flatten().flatten().all(holds_at_zero) {
         return Err(7);
     }
-    Ok(table)
+    Ok(form)
 }
 
 /// E: the corners of a cell, for every cell and mode.

@@ -1,19 +1,30 @@
 //! Runs the shared vectors through the C interface: files with one JSON object a line, which say a
 //! call, its inputs and the answer. The independent planner is held to them too.
 
+mod fields;
+
+use crate::c_form;
 use crate::dijkstra::{self, Answer};
+use crate::form::Form;
+use crate::forms;
 use crate::json::Json;
 use crate::lend::{self, Needs};
 use crate::memory::{zeroed, Memory};
 use crate::random::Random;
-use crate::table::{node_count, read};
+use crate::table::{node_count, read, read_form};
+use crate::writer;
+use crate::writing::{self, Written};
 use std::process::ExitCode;
 
 /// Runs the files, and says how many lines of each are right.
 pub fn run(paths: &[&str]) -> ExitCode {
     for path in paths {
         match file(path) {
-            Ok(lines) => println!("{path}: {lines} right"),
+            Ok(Count { right, left_out: 0 }) => println!("{path}: {right} right"),
+            Ok(Count { right, left_out }) => {
+                let why = "no call can be given a condition of code 0";
+                println!("{path}: {right} right, {left_out} left out ({why})");
+            }
             Err(error) => {
                 eprintln!("{path}: {error}");
                 return ExitCode::FAILURE;
@@ -23,19 +34,39 @@ pub fn run(paths: &[&str]) -> ExitCode {
     ExitCode::SUCCESS
 }
 
-/// The number of lines, if all are right and there is one.
-fn file(path: &str) -> Result<usize, String> {
+/// How many lines of a file are right, and how many no call can express.
+#[derive(Default)]
+struct Count {
+    right: usize,
+    left_out: usize,
+}
+
+/// The feature of lines that are left out: in C, code 0 says that there is no condition.
+const CODE_0: &str = "code 0";
+
+/// Counts the lines, if none is wrong and there is one.
+fn file(path: &str) -> Result<Count, String> {
     let text = std::fs::read_to_string(path).map_err(|error| error.to_string())?;
+    let mut count = Count::default();
     for (number, text) in text.lines().enumerate() {
-        line(text).map_err(|error| format!("line {}: {error}", number + 1))?;
+        match line(text).map_err(|error| format!("line {}: {error}", number + 1))? {
+            Line::Right => count.right += 1,
+            Line::LeftOut => count.left_out += 1,
+        }
     }
     match text.lines().count() {
         0 => Err("no line".to_string()),
-        lines => Ok(lines),
+        _ => Ok(count),
     }
 }
 
-fn line(text: &str) -> Result<(), String> {
+#[derive(Debug, PartialEq)]
+enum Line {
+    Right,
+    LeftOut,
+}
+
+fn line(text: &str) -> Result<Line, String> {
     let line = Json::read(text)?;
     let mut random = Random::new(1, 0);
     match must(&line)? {
@@ -53,8 +84,30 @@ fn line(text: &str) -> Result<(), String> {
                 return Err(format!("must be {planned:?}\n{}", must.unlike(&got)));
             }
         }
+        Must::Write { form, capacity, written } => {
+            let code_0 = Json::Text(CODE_0.to_string());
+            let is_left_out = line.list("features").is_ok_and(|named| named.contains(&code_0));
+            // What is no field is once 0 and once anything.
+            for around in [c_form::Form::zero(), c_form::Form::noise(&mut random)] {
+                match around.with(&form) {
+                    Some(given) if !is_left_out => {
+                        writing::write(&given, capacity, &written, &mut random)?
+                    }
+                    None if is_left_out => return Ok(Line::LeftOut),
+                    _ => {
+                        return Err(format!("{CODE_0} is named, or there, but not both: {form:?}"))
+                    }
+                }
+            }
+        }
+        Must::Rewrite { table, capacity, written } => {
+            if let Ok(form) = forms::read(&table, &mut random)? {
+                let given = forms::given(&form, c_form::Form::zero())?;
+                writing::write(&given, capacity, &written, &mut random)?;
+            }
+        }
     }
-    Ok(())
+    Ok(Line::Right)
 }
 
 /// What a planning leaves: its answer, and so many words 0.
@@ -66,30 +119,70 @@ struct Planned {
 
 /// A call, and what must come of it.
 enum Must {
-    Lend { table: Vec<u8>, needs: Needs },
-    Plan { table: Vec<u8>, words: usize, route_bytes: usize, planned: Planned },
+    Lend {
+        table: Vec<u8>,
+        needs: Needs,
+    },
+    Plan {
+        table: Vec<u8>,
+        words: usize,
+        route_bytes: usize,
+        planned: Planned,
+    },
+    Write {
+        form: Form,
+        capacity: usize,
+        written: Written,
+    },
+    /// The table read, and then written.
+    Rewrite {
+        table: Vec<u8>,
+        capacity: usize,
+        written: Written,
+    },
 }
 
 /// The call of a line, and which of the answers that it tells must come.
 fn must(line: &Json) -> Result<Must, String> {
-    let call = line.text("call")?;
-    let table = bytes(line.text("table")?)?;
-    let nodes = read(&table).ok().map(|table| node_count(&table));
-    match call {
+    match line.text("call")? {
         "lend" => {
+            let table = table(line)?;
             let answer = dijkstra::plan(&table, usize::MAX, usize::MAX);
-            let needs = told(line, needs_told, lend::of(&answer, nodes))?;
+            let needs = told(line, needs_told, lend::of(&answer, nodes(&table)))?;
             Ok(Must::Lend { table, needs })
         }
         "plan" => {
+            let table = table(line)?;
             let (words, route_bytes) = (number(line, "words")?, number(line, "route")?);
             let answer = dijkstra::plan(&table, words, route_bytes);
-            let zeroed = zeroed(&answer, nodes);
+            let zeroed = zeroed(&answer, nodes(&table));
             let planned = told(line, plan_told, Planned { answer, zeroed })?;
             Ok(Must::Plan { table, words, route_bytes, planned })
         }
+        "write" => {
+            let form = fields::form(line.field("fields")?)?;
+            let capacity = number(line, "capacity")?;
+            let written = told(line, written_told, writer::write(&form, capacity))?;
+            Ok(Must::Write { form, capacity, written })
+        }
+        "rewrite" => {
+            let table = table(line)?;
+            let capacity = number(line, "capacity")?;
+            let written = read_form(&table).and_then(|form| writer::write(&form, capacity));
+            let written = told(line, written_told, written)?;
+            Ok(Must::Rewrite { table, capacity, written })
+        }
         other => Err(format!("there is no call {other}")),
     }
+}
+
+fn table(line: &Json) -> Result<Vec<u8>, String> {
+    bytes(line.text("table")?)
+}
+
+/// E of a table that follows the layout.
+fn nodes(table: &[u8]) -> Option<u64> {
+    read(table).ok().map(|table| node_count(&table))
 }
 
 /// The answer of the independent planner, if the line tells it: as `expect`, or as `expect_final`,
@@ -137,6 +230,20 @@ fn plan_told(expect: &Json) -> Result<Planned, String> {
     Ok(Planned { answer, zeroed: number(expect, "words_zeroed")? })
 }
 
+fn written_told(expect: &Json) -> Result<Written, String> {
+    match expect.text("answer")? {
+        "written" => {
+            let bytes = bytes(expect.text("bytes")?)?;
+            if bytes.len() != number(expect, "length")? {
+                return Err(format!("there are {} bytes", bytes.len()));
+            }
+            Ok(Ok(bytes))
+        }
+        "refused" => Ok(Err(number(expect, "number")?)),
+        other => Err(format!("there is no answer {other}")),
+    }
+}
+
 /// The field that is a number, if it fits.
 fn number<T: TryFrom<u64>>(object: &Json, name: &str) -> Result<T, String> {
     let number = object.number(name)?;
@@ -151,79 +258,4 @@ fn bytes(hex: &str) -> Result<Vec<u8>, String> {
 }
 
 #[cfg(test)]
-mod tests {
-    use super::*;
-    use crate::fuzz::outcome_of;
-    use crate::paper::least_charge;
-
-    /// T of document 01.
-    const T: &str = "03010202020103010100010001050301020151";
-
-    fn lend_line(words: u32, more: &str) -> String {
-        let expect = format!(r#"{{"answer":"lend","words":{words},"route":26}}"#);
-        format!(r#"{{"call":"lend","table":"{T}","expect":{expect}{more}}}"#)
-    }
-
-    #[test]
-    fn a_line_is_held_to_the_call() {
-        assert_eq!(line(&lend_line(54, "")), Ok(()));
-        assert!(line(&lend_line(53, "")).is_err());
-        assert!(line(r#"{"call":"lend","table":"0","expect":{"answer":"lend"}}"#).is_err());
-        assert!(line(r#"{"call":"none","table":""}"#).is_err());
-    }
-
-    #[test]
-    fn a_planning_is_held_to_the_call() {
-        let plan_line = |route_bytes: u32, expect: &str| {
-            let lent = format!(r#""words":60,"route":{route_bytes}"#);
-            line(&format!(r#"{{"call":"plan","table":"{T}",{lent},"expect":{{{expect}}}}}"#))
-        };
-        let route = |charge: u32, steps: u32, bytes: &str, zeroed: u32| {
-            let told = format!(r#""answer":"route","charge":{charge},"steps":{steps}"#);
-            plan_line(7, &format!(r#"{told},"route":"{bytes}","words_zeroed":{zeroed}"#))
-        };
-        assert_eq!(route(7, 5, "0040404001", 54), Ok(()));
-        assert!(route(6, 5, "0040404001", 54).is_err());
-        assert!(route(7, 4, "0040404001", 54).is_err());
-        assert!(route(7, 5, "0040404101", 54).is_err());
-        assert!(route(7, 5, "0040404001", 55).is_err());
-        let refused = |zeroed: u32| {
-            plan_line(4, &format!(r#""answer":"refused","number":10,"words_zeroed":{zeroed}"#))
-        };
-        assert_eq!(refused(54), Ok(()));
-        assert!(refused(0).is_err());
-        assert!(plan_line(7, r#""answer":"no route","words_zeroed":54"#).is_err());
-    }
-
-    #[test]
-    fn the_independent_planner_decides_between_two_answers() {
-        let last = |answer: &str| format!(r#","expect_final":{{{answer}}}"#);
-        let refused = last(r#""answer":"refused","number":1"#);
-        assert_eq!(line(&lend_line(54, &refused)), Ok(()));
-        assert!(line(&lend_line(53, &refused)).is_err());
-        let right = last(r#""answer":"lend","words":54,"route":26"#);
-        assert_eq!(line(&lend_line(53, &right)), Ok(()));
-    }
-
-    /// Every line here tells what the independent planner and the paper's algorithm come to.
-    #[test]
-    fn the_independent_planner_is_held_to_every_line() {
-        let folder = std::fs::read_dir(concat!(env!("CARGO_MANIFEST_DIR"), "/vectors")).unwrap();
-        let paths = folder.map(|entry| entry.unwrap().path());
-        let mut lines = 0;
-        for path in paths.filter(|path| path.extension().is_some_and(|name| name == "jsonl")) {
-            for text in std::fs::read_to_string(path).unwrap().lines() {
-                let line = Json::read(text).unwrap();
-                must(&line).unwrap_or_else(|error| panic!("{text}\n{error}"));
-                let bytes = bytes(line.text("table").unwrap()).unwrap();
-                let answer = dijkstra::plan(&bytes, usize::MAX, usize::MAX);
-                if answer.is_searched() {
-                    let charge = least_charge(&read(&bytes).unwrap(), u64::MAX);
-                    assert_eq!(charge, outcome_of(&answer), "{text}");
-                }
-                lines += 1;
-            }
-        }
-        assert!(lines > 0);
-    }
-}
+mod tests;

@@ -2,5 +2,6 @@
 pub mod Part
 pub mod Format
 pub mod Compact
+pub mod Overlays
 pub mod Puts
 pub mod Theorems

@@ -1,4 +1,4 @@
--- The contract of each private function that writes a part from a place on.
+-- The contract of each private function of the writer that writes a part from a place on.
 -- Assumes nothing.
 use Prim.Native.Nat.{ℕ, _+_, _≤_}
 use mathlib.Core.Path.{_≡_}

@@ -8,7 +8,7 @@ ghost use Rattle.reader.specs.Format.{between};
 ghost use Rattle.parts.specs.Part.{checked, unlessZero};
 ghost use Rattle.parts.specs.Format.{bitOf, bitsOf, mapByte, amountByte};
 ghost use Rattle.parts.specs.Compact.{firstOf, furtherOf, compact};
-ghost use Rattle.parts.specs.Puts.{Puts};
+ghost use Rattle.parts.specs.Overlays.{Overlays};
 use reader::ABSENT_TIMER;
 use reader::CONDITIONS;
 use reader::LONGEST;
@@ -89,7 +89,7 @@ pub fn between(b: u8, least: u8, most: u8) -> bool
 // A byte; where it does not pass its test it is refused by the number.
 pub fn checked(b: u8, passes: bool, number: u8, bytes: &mut [u8; LONGEST], at: usize) -> Next
     requires { ⌜ (0 < number) × (at < 919) × (length (now bytes) ≡ 919) ⌝ }
-    ensures { λ r. ⌜ Puts 1 (checked passes number b) (now (bytes .entry)) at (r .refusal) (r .next) (now (bytes .exit)) ⌝ }
+    ensures { λ r. ⌜ Overlays (checked passes number b) (now (bytes .entry)) at (r .refusal) (r .next) (now (bytes .exit)) ⌝ }
 {
     if !passes {
         return Next {
@@ -107,7 +107,7 @@ pub fn checked(b: u8, passes: bool, number: u8, bytes: &mut [u8; LONGEST], at: u
 // A count, a goal or a ceiling from least to most.
 pub fn counted(b: u8, least: u8, most: u8, bytes: &mut [u8; LONGEST], at: usize) -> Next
     requires { ⌜ (at < 919) × (length (now bytes) ≡ 919) ⌝ }
-    ensures { λ r. ⌜ Puts 1 (checked (between least most b) 2 b) (now (bytes .entry)) at (r .refusal) (r .next) (now (bytes .exit)) ⌝ }
+    ensures { λ r. ⌜ Overlays (checked (between least most b) 2 b) (now (bytes .entry)) at (r .refusal) (r .next) (now (bytes .exit)) ⌝ }
 {
     checked(b, between(b, least, most), OUT_OF_RANGE, bytes, at)
 }
@@ -115,21 +115,21 @@ pub fn counted(b: u8, least: u8, most: u8, bytes: &mut [u8; LONGEST], at: usize)
 // The same as `checked`, left out where it is 0.
 pub fn unless_zero(b: u8, passes: bool, number: u8, bytes: &mut [u8; LONGEST], at: usize) -> Next
     requires { ⌜ (0 < number) × (at < 919) × (length (now bytes) ≡ 919) ⌝ }
-    ensures { λ r. ⌜ Puts 1 (unlessZero passes number b) (now (bytes .entry)) at (r .refusal) (r .next) (now (bytes .exit)) ⌝ }
+    ensures { λ r. ⌜ Overlays (unlessZero passes number b) (now (bytes .entry)) at (r .refusal) (r .next) (now (bytes .exit)) ⌝ }
 {
-    if b == 0 {
-        return Next {
-            refusal: 0,
-            next: at,
-        };
+    if b != 0 {
+        return checked(b, passes, number, bytes, at);
     }
-    checked(b, passes, number, bytes, at)
+    Next {
+        refusal: 0,
+        next: at,
+    }
 }
 
 // A byte of a rate or price, left out where it is 0: gives the place of the next byte.
 pub fn amount_byte(b: u8, bytes: &mut [u8; LONGEST], at: usize) -> usize
     requires { ⌜ (at < 919) × (length (now bytes) ≡ 919) ⌝ }
-    ensures { λ r. ⌜ Puts 1 (amountByte b) (now (bytes .entry)) at 0 r (now (bytes .exit)) ⌝ }
+    ensures { λ r. ⌜ Overlays (amountByte b) (now (bytes .entry)) at 0 r (now (bytes .exit)) ⌝ }
 {
     if 0 < b {
         bytes[at] = b;
@@ -141,7 +141,7 @@ pub fn amount_byte(b: u8, bytes: &mut [u8; LONGEST], at: usize) -> usize
 // A bit map, refused where a condition is on an absent timer.
 pub fn map_byte(map: u8, timers: u8, bytes: &mut [u8; LONGEST], at: usize) -> Next
     requires { ⌜ (timers ≤ 3) × (at < 919) × (length (now bytes) ≡ 919) ⌝ }
-    ensures { λ r. ⌜ Puts 1 (mapByte timers map) (now (bytes .entry)) at (r .refusal) (r .next) (now (bytes .exit)) ⌝ }
+    ensures { λ r. ⌜ Overlays (mapByte timers map) (now (bytes .entry)) at (r .refusal) (r .next) (now (bytes .exit)) ⌝ }
 {
     let limit = names(timers);
     let first = map / 2 % 8 < limit;

@@ -1,5 +1,5 @@
 -- `parts::map_byte` meets its contract. Assumes nothing.
-use Rattle.parts.specs.Theorems.Putting.{map-puts}
+use Rattle.parts.specs.Theorems.Putting.{map-overlays}
 use borrow.Author.Needs.{needs}
 use Rattle.parts.proofs.map_byte.Statement.{statement}
 use Rattle.parts.proofs.map_byte.Tie as tie
@@ -11,7 +11,7 @@ checked-requires : tie.Need-checked-requires
 checked-requires c κs = search needs
 
 returns : tie.Need-returns
-returns c = let a = c .before .before .before .args in map-puts (a .timers) (a .map) (c .before .before .names .ensures) (c .checked .ensures)
+returns c = let a = c .before .before .before .args in map-overlays (a .timers) (a .map) (c .before .before .names .ensures) (c .checked .ensures)
 
 pub map-byte-spec : {M : Type 1} → statement M
 map-byte-spec = tie.close (tie.spec names-requires checked-requires returns)

@@ -1,17 +1,21 @@
 -- How what a function writes follows from what the functions that it calls write.
 -- Assumes nothing.
 use Prim.Native.Nat.{ℕ, _+_, _*_, _/_, _%_, _^_, _≤_, _<_}
+use native.Mathlib.Nat.{add-zero}
+use native.Mathlib.Numerals.{add-one}
 use native.Mathlib.Omega.{arith}
 use mathlib.Core.Path.{_≡_, refl, sym, ap, _∙_}
 use mathlib.Core.Bool.{Bool, true, false, cond, _&&_}
 use mathlib.Core.List.{List, [], _∷_, _++_, append-assoc, append-nil}
 use borrow.Author.Tests.{eq-eqb, ne-eqb, eqb-true, lt-ltb, le-ltb}
 use lib.Dec.{eqb, ltb}
-use lib.ListN.{length, set}
+use lib.ListN.{length, take, drop, set, length-append, length-drop, take-append-drop}
 use lib.Pow.{pow-mono, pow-pos}
-use Rattle.form.specs.Theorems.Appending.{append-none, append-byte, append-then}
+use lib.Seq.{set-split, length-take-le, take-at}
+use Rattle.form.specs.Theorems.Appending.{append-then}
 use Rattle.parts.specs.Part.{Part, nothing, checked, unlessZero, _then_, each}
 use Rattle.parts.specs.Format.{bitOf, mapByte, amountByte, resetBits, resetByte}
+use Rattle.parts.specs.Overlays.{Overlays}
 use Rattle.parts.specs.Puts.{Puts}
 
 -- Laws of parts.
@@ -41,24 +45,55 @@ each-append part (a ∷ l) m = ap (λ (p : Part). part a then p) (each-append pa
 
 -- One byte: refused, or put.
 module _ (passes : Bool) (number b : ℕ) (t : List ℕ) (at : ℕ) where
-  pub byte-refused : passes ≡ false → 0 < number → Puts 1 (checked passes number b) t at number at t
-  byte-refused e h = record { number = rw e; few = λ z. absurd (omega arith); put = λ z. absurd (omega arith) }
+  pub byte-refused : passes ≡ false → 0 < number → Overlays (checked passes number b) t at number at t
+  byte-refused e h = let some = ne-eqb number 0 (λ z. omega arith) in record { number = rw e; place = rw (e, some); array = rw (e, some) }
 
-  pub byte-put : passes ≡ true → at < length t → Puts 1 (checked passes number b) t at 0 (at + 1) (set t at b)
-  byte-put e h = record { number = rw e; few = λ z. omega arith; put = λ z. append-byte t at b h }
+  pub byte-put : passes ≡ true → at < length t → Overlays (checked passes number b) t at 0 (at + 1) (set t at b)
+  byte-put e h = rw e (record { number = refl; place = refl; array = rw (add-one at) (set-split t at b h) })
 
 -- One that is left out where it is 0.
 module _ (passes : Bool) (number b : ℕ) {t : List ℕ} {at : ℕ} where
-  pub zero-left : b ≡ 0 → Puts 1 (unlessZero passes number b) t at 0 at t
-  zero-left e = rw (eq-eqb b 0 e) (record { number = refl; few = λ z. omega arith; put = λ z. append-none t at })
+  pub zero-left : b ≡ 0 → Overlays (unlessZero passes number b) t at 0 at t
+  zero-left e = rw (eq-eqb b 0 e) (record { number = refl; place = sym (add-zero at); array = rw (add-zero at) (sym (take-append-drop at t)) })
 
-  pub not-zero : {t′ : List ℕ} {r next : ℕ} → (b ≡ 0 → ⊥) → Puts 1 (checked passes number b) t at r next t′ → Puts 1 (unlessZero passes number b) t at r next t′
+  pub not-zero : {t′ : List ℕ} {r next : ℕ} → (b ≡ 0 → ⊥) → Overlays (checked passes number b) t at r next t′ →
+      Overlays (unlessZero passes number b) t at r next t′
   not-zero z v = rw (ne-eqb b 0 z) v
 
+-- It has at most one byte.
+pub unless-short : (passes : Bool) (number b : ℕ) → length (unlessZero passes number b .bytes) ≤ 1
+unless-short passes number b = go (eqb b 0)
+  where
+    go : (t : Bool) → length (cond t nothing (checked passes number b) .bytes) ≤ 1
+    go true = omega arith
+    go false = omega arith
+
 -- A bit map.
-pub map-puts : {limit at r next : ℕ} {t t′ : List ℕ} (n map : ℕ) → limit ≡ 2 ^ n →
-    Puts 1 (checked (ltb (map / 2 % 8) limit && ltb (map / 16 % 8) limit) 3 map) t at r next t′ → Puts 1 (mapByte n map) t at r next t′
-map-puts n map e v = rw (← e) v
+pub map-overlays : {limit at r next : ℕ} {t t′ : List ℕ} (n map : ℕ) → limit ≡ 2 ^ n →
+    Overlays (checked (ltb (map / 2 % 8) limit && ltb (map / 16 % 8) limit) 3 map) t at r next t′ → Overlays (mapByte n map) t at r next t′
+map-overlays n map e v = rw (← e) v
+
+-- What was put by a function that writes a part of at most one byte where there is room for one.
+module _ {p : Part} {t t′ : List ℕ} {at r next : ℕ} where
+  abbrev pub PutBy : Overlays p t at r next t′ → Type 0
+  PutBy v = Puts 1 p t at r next t′
+
+  pub overlays-puts : (v : Overlays p t at r next t′) → length (p .bytes) ≤ 1 → at < length t → PutBy v
+  overlays-puts v short room =
+      let behind : length (take at t ++ p .bytes) ≡ at + length (p .bytes) =
+      length-append (take at t) (p .bytes) ∙ ap (λ (k : ℕ). k + length (p .bytes)) (length-take-le at t (omega arith)) in
+      let none : r ≡ 0 → eqb (p .fault) 0 ≡ true = λ z. eq-eqb (p .fault) 0 (sym (v .number) ∙ z) in
+      let next-is : r ≡ 0 → next ≡ at + length (p .bytes) = λ z. rw (none z) at (v .place) in
+      let array-is : r ≡ 0 → t′ ≡ (take at t ++ p .bytes) ++ drop (at + length (p .bytes)) t =
+      λ z. rw append-assoc (rw (none z) at (v .array)) in
+      record {
+        number = v .number;
+        few = λ z. omega (arith, next-is z);
+        put = λ z. record {
+          is = rw (next-is z, array-is z) (take-at (take at t ++ p .bytes) (drop (at + length (p .bytes)) t) (at + length (p .bytes)) behind);
+          long = rw (array-is z, length-append, behind, length-drop) (omega arith);
+        };
+      }
 
 -- The array is as long as before.
 pub puts-long : {most at r next n : ℕ} {p : Part} {t t′ : List ℕ} → Puts most p t at r next t′ → r ≡ 0 → length t ≡ n → length t′ ≡ n

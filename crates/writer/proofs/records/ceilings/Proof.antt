@@ -1,7 +1,7 @@
 -- `writer::records::ceilings` meets its contract. Assumes nothing.
 use Prim.Native.Nat.{_-_}
 use mathlib.Core.Path.{_≡_, refl}
-use Rattle.parts.specs.Theorems.Putting.{puts-long}
+use Rattle.parts.specs.Theorems.Putting.{PutBy, overlays-puts, puts-long}
 use Rattle.writer.proofs.Rows.{Row, row-none, row-more, row-refused, row-all}
 use Rattle.parts.specs.Format.{ceilingByte}
 use Rattle.writer.proofs.Said.{ceilingsSaid, ceilings-many, ceiling-at}
@@ -30,13 +30,16 @@ counted-requires c κs =
     let puts = at-loop .loop .inv .puts in
     (omega (arith, puts .few refl, at-loop .before .pre), puts-long puts refl (at-loop .before .pre .2))
 
+counted-puts : (c : tie.After-counted Inv-loop μ-loop) → PutBy (c .counted .ensures)
+counted-puts c = overlays-puts (c .counted .ensures) (omega arith) (omega (arith, counted-requires (c .before) (c .counted .lifetimes)))
+
 returns : tie.Need-returns Inv-loop μ-loop
 returns c =
     let at-loop = c .before .before .before .before .before .before in
     let a = at-loop .before .args in
     let i = at-loop .loop .i in
     row-refused 1 ceilingByte (ceilingsSaid (a .form .now) (a .timers)) 0 (at-loop .loop .inv) (omega (arith, ceilings-many (a .form .now) (a .timers)))
-    (ceiling-at (a .form .now) (a .timers) i (omega arith)) (c .if1 .taken) (c .before .before .counted .ensures)
+    (ceiling-at (a .form .now) (a .timers) i (omega arith)) (c .if1 .taken) (counted-puts (c .before .before))
 
 add-i : tie.Need-add-i Inv-loop μ-loop
 add-i c = omega arith
@@ -50,7 +53,7 @@ loop-again c =
     let a = at-loop .before .args in
     let i = at-loop .loop .i in
     row-more 1 ceilingByte (ceilingsSaid (a .form .now) (a .timers)) 0 (at-loop .loop .inv) (omega (arith, ceilings-many (a .form .now) (a .timers)))
-    (ceiling-at (a .form .now) (a .timers) i (omega arith)) (c .if1 .left) (c .before .before .counted .ensures)
+    (ceiling-at (a .form .now) (a .timers) i (omega arith)) (c .if1 .left) (counted-puts (c .before .before))
 
 returns-2 : tie.Need-returns-2 Inv-loop μ-loop
 returns-2 c =

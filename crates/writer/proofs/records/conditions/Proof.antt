@@ -1,7 +1,8 @@
 -- `writer::records::conditions` meets its contract. Assumes nothing.
 use Prim.Native.Nat.{_-_}
 use mathlib.Core.Path.{_≡_, refl}
-use Rattle.parts.specs.Theorems.Putting.{puts-long}
+use lib.ListN.{getD}
+use Rattle.parts.specs.Theorems.Putting.{PutBy, unless-short, overlays-puts, puts-long}
 use Rattle.writer.proofs.Rows.{Row, row-none, row-more, row-refused, row-all}
 use Rattle.parts.specs.Format.{conditionPart}
 use native.Mathlib.Omega.{arith}
@@ -29,12 +30,18 @@ unless-zero-requires c κs =
     let puts = at-loop .loop .inv .puts in
     (omega arith, omega (arith, puts .few refl, at-loop .before .pre), puts-long puts refl (at-loop .before .pre .2))
 
+unless-zero-puts : (c : tie.After-unless-zero Inv-loop μ-loop) → PutBy (c .unless-zero .ensures)
+unless-zero-puts c =
+    let at-loop = c .before .before .before .before in
+    overlays-puts (c .unless-zero .ensures) (unless-short (c .before .before .between .result) 4 (getD (at-loop .before .args .t1) (at-loop .loop .i) 0))
+    (omega (arith, unless-zero-requires (c .before) (c .unless-zero .lifetimes)))
+
 returns : tie.Need-returns Inv-loop μ-loop
 returns c =
     let at-loop = c .before .before .before .before .before .before in
     let start = at-loop .before in
     row-refused 1 conditionPart (start .args .t1) 0 (at-loop .loop .inv) (omega (arith, start .pre)) refl (c .if1 .taken)
-    (rw (c .before .before .before .before .between .ensures) at (c .before .before .unless-zero .ensures))
+    (rw (c .before .before .before .before .between .ensures) at (unless-zero-puts (c .before .before)))
 
 add-i : tie.Need-add-i Inv-loop μ-loop
 add-i c = omega arith
@@ -47,7 +54,7 @@ loop-again c =
     let at-loop = c .before .before .before .before .before .before in
     let start = at-loop .before in
     row-more 1 conditionPart (start .args .t1) 0 (at-loop .loop .inv) (omega (arith, start .pre)) refl (c .if1 .left)
-    (rw (c .before .before .before .before .between .ensures) at (c .before .before .unless-zero .ensures))
+    (rw (c .before .before .before .before .between .ensures) at (unless-zero-puts (c .before .before)))
 
 returns-2 : tie.Need-returns-2 Inv-loop μ-loop
 returns-2 c =

@@ -1,8 +1,10 @@
 -- `writer::records::mode_record` meets its contract. Assumes nothing.
+use Prim.Native.Nat.{_+_}
 use mathlib.Core.Path.{ap, _∙_}
-use lib.ListN.{length}
+use mathlib.Core.Bool.{true}
+use lib.ListN.{length, getD}
 use Rattle.parts.specs.Compact.{compact}
-use Rattle.parts.specs.Theorems.Putting.{puts-long, puts-then, puts-fault}
+use Rattle.parts.specs.Theorems.Putting.{PutBy, unless-short, overlays-puts, puts-long, puts-then, puts-fault}
 use Rattle.writer.proofs.Grouping.{ModeGrouped, mode-grouped}
 use native.Mathlib.Omega.{arith}
 use borrow.Author.Needs.{needs}
@@ -44,26 +46,28 @@ bits-requires c κs = ap length (c .compact .ensures)
 map-byte-requires : tie.Need-map-byte-requires
 map-byte-requires c κs = search needs
 
+map-byte-puts : (c : tie.After-map-byte) → PutBy (c .map-byte .ensures)
+map-byte-puts c = overlays-puts (c .map-byte .ensures) (omega arith) (omega (arith, map-byte-requires (c .before) (c .map-byte .lifetimes)))
+
 returns : tie.Need-returns
 returns c =
     let one = c .before .before in
-    rw (grouped one) (puts-fault _ (one .map-byte .ensures) (c .if1 .taken))
+    rw (grouped one) (puts-fault _ (map-byte-puts one) (c .if1 .taken))
 
 priced-requires : tie.Need-priced-requires
 priced-requires c κs =
     let one = c .before .before .before in
     let z = c .before .if1 .left in (
       ap length (one .before .before .before .compact .ensures),
-      omega (arith, one .map-byte .ensures .few z),
-      puts-long (one .map-byte .ensures) z
-          (one .before .before .before .before .before .before .before .pre .3),
+      omega (arith, map-byte-puts one .few z),
+      puts-long (map-byte-puts one) z (one .before .before .before .before .before .before .before .pre .3),
     )
 
 returns-2 : tie.Need-returns-2
 returns-2 c =
     let two = c .before .before in
     let one = two .before .before .before .before in
-    rw (grouped one) (puts-then {b = 8} (one .map-byte .ensures) (two .before .before .if1 .left) (puts-fault _ (two .priced .ensures) (c .if2 .taken)))
+    rw (grouped one) (puts-then {b = 8} (map-byte-puts one) (two .before .before .if1 .left) (puts-fault _ (two .priced .ensures) (c .if2 .taken)))
 
 amount-byte-requires : tie.Need-amount-byte-requires
 amount-byte-requires c κs =
@@ -71,17 +75,24 @@ amount-byte-requires c κs =
     let one = two .before .before .before .before in
     let y = two .before .before .if1 .left in
     let z = c .before .if2 .left in (
-      omega (arith, one .map-byte .ensures .few y, two .priced .ensures .few z, one .before .before .before .before .before .before .before .pre),
-      puts-long (two .priced .ensures) z (puts-long (one .map-byte .ensures) y (one .before .before .before .before .before .before .before .pre .3)),
+      omega (arith, map-byte-puts one .few y, two .priced .ensures .few z, one .before .before .before .before .before .before .before .pre),
+      puts-long (two .priced .ensures) z (puts-long (map-byte-puts one) y (one .before .before .before .before .before .before .before .pre .3)),
     )
+
+amount-byte-puts : (c : tie.After-amount-byte) → PutBy (c .amount-byte .ensures)
+amount-byte-puts c =
+    let one = c .before .before .before .before .before .before .before .before in
+    let a = one .before .before .before .before .before .before .before .args in
+    overlays-puts (c .amount-byte .ensures) (unless-short true 0 (getD (a .form .now) (a .from + 1) 0))
+    (omega (arith, amount-byte-requires (c .before) (c .amount-byte .lifetimes)))
 
 returns-3 : tie.Need-returns-3
 returns-3 c =
     let two = c .before .before .before .before in
     let one = two .before .before .before .before in
     rw (grouped one)
-    (puts-then {b = 8} (one .map-byte .ensures) (two .before .before .if1 .left)
-    (puts-then {b = 1} (two .priced .ensures) (c .before .before .if2 .left) (c .amount-byte .ensures)))
+    (puts-then {b = 8} (map-byte-puts one) (two .before .before .if1 .left)
+    (puts-then {b = 1} (two .priced .ensures) (c .before .before .if2 .left) (amount-byte-puts c)))
 
 pub mode-record-spec : {M : Type 1} → statement M
 mode-record-spec =

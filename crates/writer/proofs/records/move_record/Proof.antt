@@ -2,7 +2,7 @@
 use mathlib.Core.Path.{ap, _∙_}
 use lib.ListN.{length}
 use Rattle.parts.specs.Compact.{compact}
-use Rattle.parts.specs.Theorems.Putting.{puts-long, puts-then, puts-fault}
+use Rattle.parts.specs.Theorems.Putting.{PutBy, overlays-puts, puts-long, puts-then, puts-fault}
 use Rattle.writer.proofs.Grouping.{MoveGrouped, move-grouped}
 use native.Mathlib.Omega.{arith}
 use borrow.Author.Needs.{needs}
@@ -61,10 +61,13 @@ bits-requires c κs = ap length (c .before .compact .ensures)
 map-byte-requires : tie.Need-map-byte-requires
 map-byte-requires c κs = search needs
 
+map-byte-puts : (c : tie.After-map-byte) → PutBy (c .map-byte .ensures)
+map-byte-puts c = overlays-puts (c .map-byte .ensures) (omega arith) (omega (arith, map-byte-requires (c .before) (c .map-byte .lifetimes)))
+
 returns : tie.Need-returns
 returns c =
     let one = c .before .before in
-    rw (grouped one) (puts-fault _ (one .map-byte .ensures) (c .if1 .taken))
+    rw (grouped one) (puts-fault _ (map-byte-puts one) (c .if1 .taken))
 
 element-copy-out-ends : tie.Need-element-copy-out-ends
 element-copy-out-ends c = search needs
@@ -79,16 +82,15 @@ ends-requires : tie.Need-ends-requires
 ends-requires c κs =
     let one = c .before .before .before .before .before in
     let z = c .before .before .before .if1 .left in (
-      omega (arith, one .map-byte .ensures .few z, one .before .before .before .before .before .before .before .before .before .pre),
-      puts-long
-          (one .map-byte .ensures) z (one .before .before .before .before .before .before .before .before .before .pre .3),
+      omega (arith, map-byte-puts one .few z, one .before .before .before .before .before .before .before .before .before .pre),
+      puts-long (map-byte-puts one) z (one .before .before .before .before .before .before .before .before .before .pre .3),
     )
 
 returns-2 : tie.Need-returns-2
 returns-2 c =
     let two = c .before .before in
     let one = two .before .before .before .before .before .before in
-    rw (grouped one) (puts-then {b = 11} (one .map-byte .ensures) (two .before .before .before .before .if1 .left)
+    rw (grouped one) (puts-then {b = 11} (map-byte-puts one) (two .before .before .before .before .if1 .left)
     (puts-fault _ (two .ends .ensures) (c .if2 .taken)))
 
 priced-requires : tie.Need-priced-requires
@@ -98,8 +100,8 @@ priced-requires c κs =
     let y = two .before .before .before .before .if1 .left in
     let z = c .before .if2 .left in (
       ap length (one .before .before .before .before .compact .ensures),
-      omega (arith, one .map-byte .ensures .few y, two .ends .ensures .few z, one .before .before .before .before .before .before .before .before .before .pre),
-      puts-long (two .ends .ensures) z (puts-long (one .map-byte .ensures) y
+      omega (arith, map-byte-puts one .few y, two .ends .ensures .few z, one .before .before .before .before .before .before .before .before .before .pre),
+      puts-long (two .ends .ensures) z (puts-long (map-byte-puts one) y
           (one .before .before .before .before .before .before .before .before .before .pre .3)),
     )
 
@@ -109,7 +111,7 @@ returns-3 c =
     let two = three .before .before .before .before in
     let one = two .before .before .before .before .before .before in
     rw (grouped one)
-    (puts-then {b = 11} (one .map-byte .ensures) (two .before .before .before .before .if1 .left)
+    (puts-then {b = 11} (map-byte-puts one) (two .before .before .before .before .if1 .left)
     (puts-then {b = 9} (two .ends .ensures) (three .before .before .if2 .left) (puts-fault _ (three .priced .ensures) (c .if3 .taken))))
 
 resets-requires : tie.Need-resets-requires
@@ -122,8 +124,8 @@ resets-requires c κs =
     let z = c .before .if3 .left in
     let start = one .before .before .before .before .before .before .before .before .before in (
       start .pre .1,
-      omega (arith, one .map-byte .ensures .few x, two .ends .ensures .few y, three .priced .ensures .few z, start .pre),
-      puts-long (three .priced .ensures) z (puts-long (two .ends .ensures) y (puts-long (one .map-byte .ensures) x (start .pre .3))),
+      omega (arith, map-byte-puts one .few x, two .ends .ensures .few y, three .priced .ensures .few z, start .pre),
+      puts-long (three .priced .ensures) z (puts-long (two .ends .ensures) y (puts-long (map-byte-puts one) x (start .pre .3))),
     )
 
 returns-4 : tie.Need-returns-4
@@ -132,7 +134,7 @@ returns-4 c =
     let two = three .before .before .before .before in
     let one = two .before .before .before .before .before .before in
     rw (grouped one)
-    (puts-then {b = 11} (one .map-byte .ensures) (two .before .before .before .before .if1 .left)
+    (puts-then {b = 11} (map-byte-puts one) (two .before .before .before .before .if1 .left)
     (puts-then {b = 9} (two .ends .ensures) (three .before .before .if2 .left)
     (puts-then {b = 2} (three .priced .ensures) (c .before .before .if3 .left) (c .resets .ensures))))
 

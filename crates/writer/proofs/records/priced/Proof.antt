@@ -1,6 +1,7 @@
 -- `writer::records::priced` meets its contract. Assumes nothing.
 use mathlib.Core.Path.{refl}
-use Rattle.parts.specs.Theorems.Putting.{puts-long, puts-then}
+use mathlib.Core.Bool.{true}
+use Rattle.parts.specs.Theorems.Putting.{PutBy, unless-short, overlays-puts, puts-long, puts-then}
 use native.Mathlib.Omega.{arith}
 use borrow.Author.Needs.{needs}
 use Rattle.writer.proofs.records.priced.Statement.{statement}
@@ -9,14 +10,18 @@ use Rattle.writer.proofs.records.priced.Tie as tie
 amount-byte-requires : tie.Need-amount-byte-requires
 amount-byte-requires c κs = search needs
 
+amount-byte-puts : (c : tie.After-amount-byte) → PutBy (c .amount-byte .ensures)
+amount-byte-puts c = overlays-puts (c .amount-byte .ensures) (unless-short true 0 (c .before .before .args .low))
+    (omega (arith, amount-byte-requires (c .before) (c .amount-byte .lifetimes)))
+
 conditions-requires : tie.Need-conditions-requires
 conditions-requires c κs =
     let one = c .before in
     let start = one .before .before in
-    (start .pre .0, omega (arith, one .amount-byte .ensures .few refl), puts-long (one .amount-byte .ensures) refl (start .pre .2))
+    (start .pre .0, omega (arith, amount-byte-puts one .few refl), puts-long (amount-byte-puts one) refl (start .pre .2))
 
 returns : tie.Need-returns
-returns c = puts-then (c .before .before .amount-byte .ensures) refl (c .conditions .ensures)
+returns c = puts-then (amount-byte-puts (c .before .before)) refl (c .conditions .ensures)
 
 pub priced-spec : {M : Type 1} → statement M
 priced-spec = tie.close (tie.spec amount-byte-requires conditions-requires returns)

@@ -1,6 +1,8 @@
 -- `writer::records::resets` meets its contract. Assumes nothing.
+use Prim.Native.Nat.{_+_, _*_}
 use mathlib.Core.Path.{refl}
-use Rattle.parts.specs.Theorems.Putting.{puts-long, puts-then, limit-small, resets-refused, reset-put}
+use mathlib.Core.Bool.{true}
+use Rattle.parts.specs.Theorems.Putting.{PutBy, unless-short, overlays-puts, puts-long, puts-then, limit-small, resets-refused, reset-put}
 use native.Mathlib.Omega.{arith}
 use borrow.Author.Needs.{needs}
 use Rattle.writer.proofs.records.resets.Statement.{statement}
@@ -32,19 +34,30 @@ add-amount-byte c = omega (
 amount-byte-requires : tie.Need-amount-byte-requires
 amount-byte-requires c κs = search needs
 
+amount-byte-puts : (c : tie.After-amount-byte) → PutBy (c .amount-byte .ensures)
+amount-byte-puts c =
+    let a = c .before .before .before .before .before .args in
+    overlays-puts (c .amount-byte .ensures) (unless-short true 0 (a .resets + 128 * c .before .before .bit-of .result))
+    (omega (arith, amount-byte-requires (c .before) (c .amount-byte .lifetimes)))
+
 amount-byte-requires-2 : tie.Need-amount-byte-requires-2
 amount-byte-requires-2 c κs =
     let one = c .before in
     let start = one .before .before .before .before .before in
-    (omega (arith, one .amount-byte .ensures .few refl, start .pre), puts-long (one .amount-byte .ensures) refl (start .pre .2))
+    (omega (arith, amount-byte-puts one .few refl, start .pre), puts-long (amount-byte-puts one) refl (start .pre .2))
+
+amount-byte-puts-2 : (c : tie.After-amount-byte2) → PutBy (c .amount-byte2 .ensures)
+amount-byte-puts-2 c =
+    overlays-puts (c .amount-byte2 .ensures) (unless-short true 0 (c .before .before .before .before .before .before .before .args .high))
+    (omega (arith, amount-byte-requires-2 (c .before) (c .amount-byte2 .lifetimes)))
 
 returns-2 : tie.Need-returns-2
 returns-2 c =
     let one = c .before .before in
     let a = one .before .before .before .before .before .args in
     puts-then {b = 1} (reset-put (a .timers) (a .resets) (a .high) (one .before .before .before .before .names .ensures)
-    (omega (arith, one .before .before .before .if1 .left)) (one .before .before .bit-of .ensures .0) (one .amount-byte .ensures)) refl
-    (c .amount-byte2 .ensures)
+    (omega (arith, one .before .before .before .if1 .left)) (one .before .before .bit-of .ensures .0) (amount-byte-puts one)) refl
+    (amount-byte-puts-2 c)
 
 pub resets-spec : {M : Type 1} → statement M
 resets-spec =

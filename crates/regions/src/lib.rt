@@ -30,6 +30,9 @@ impl Region {
 
     pub const MOST_CORNERS: usize = arrays::MOST_CORNERS;
 
+    // The highest number of a timer, in 32 bits.
+    const LAST_TIMER: u32 = Region::MOST_TIMERS as u32 - 1;
+
     // "The start region has all timers in r0 and the single price 0."
     pub fn start(timers: usize) -> Region
         requires { ⌜ timers ≤ mostTimers ⌝ }
@@ -82,15 +85,16 @@ impl Region {
         }
     }
 
-    // The timers that a reset byte names are reset.
+    // "Several timers are reset one after another": those that a reset byte names, "from the highest number to the lowest".
     pub fn reset_all(self, resets: u8) -> Region
         requires { ⌜ Valid self ⌝ }
         ensures { λ r. ⌜ r ≡ pack (resetAll (namedTimers resets) (view self)) ⌝ }
     {
         let mut region = self;
-        for timer in 0..Region::MOST_TIMERS {
+        for done in 0..Region::MOST_TIMERS as u32 {
+            let timer = Region::LAST_TIMER - done;
             if (resets >> timer) % 2 == 1 {
-                region = region.reset(timer);
+                region = region.reset(timer as usize);
             }
         }
         region

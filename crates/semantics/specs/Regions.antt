@@ -6,6 +6,7 @@ pub mod Cases
 pub mod Lengths
 pub mod Groups
 pub mod WellFormed
+pub mod Absent
 pub mod Compare
 pub mod Meets
 pub mod Points

@@ -2,17 +2,13 @@
 -- their contracts alone.
 -- Assumes nothing.
 use mathlib.Core.Path.{_≡_, refl, ap, _∙_, sym, subst}
-use mathlib.Core.Bool.{false}
-use mathlib.Core.List.{List, [], _∷_}
+use mathlib.Core.List.{List}
 use Prim.Native.Nat.{ℕ, suc, _<_, _≤_}
-use native.Mathlib.Decide.{decLt}
-use native.Mathlib.Omega.{arith}
-use lib.ListN.{length, List·getD-eq-default}
-use lib.Seq.{set-out}
-use Rattle.semantics.specs.Region.{PricedRegion, WellFormed, top, alone, start, delay, linger, reset, resetAll, charge}
-use Rattle.semantics.specs.Regions.Cases.{reset-joined}
+use lib.ListN.{length}
+use Rattle.semantics.specs.Region.{PricedRegion, WellFormed, top, start, delay, linger, reset, resetAll, charge}
 use Rattle.semantics.specs.Regions.Lengths.{SameTimers, prices-top, start-timers, delay-timers, linger-timers, charge-timers, resetAll-timers, reset-timers}
-use Rattle.semantics.specs.Regions.WellFormed.{start-well-formed, delay-well-formed, linger-well-formed, charge-well-formed, reset-well-formed}
+use Rattle.semantics.specs.Regions.WellFormed.{start-well-formed, delay-well-formed, linger-well-formed, charge-well-formed}
+use Rattle.semantics.specs.Regions.Absent.{reset-any-well-formed, resetAll-any-well-formed}
 use Rattle.regions.specs.declared.Region.{Region}
 use Rattle.regions.specs.Held.{mostTimers, mostCorners, pack, view, Valid}
 use Rattle.regions.specs.Laws.Pads.{take-pad}
@@ -46,26 +42,6 @@ gives : (n : ℕ) (t : Region) (r : PricedRegion) → n ≤ mostTimers → WellF
 gives n t r few w l e =
     subst (λ (s : Region). Gives n s r) (sym e)
     (record { valid = valid-pack r w (rw l few); timers = timers-pack r ∙ l; seen = view-pack r w })
-
--- A timer that is not there: its reset changes nothing.
-pub reset-absent : (r : PricedRegion) → WellFormed r → (x : ℕ) → length (r .whole) ≤ x → reset x r ≡ r
-reset-absent r w x h =
-    let g : length (r .group) ≤ x = rw (w .paired) h in
-    let a : alone x (r .group) ≡ false = rw (List·getD-eq-default (r .group) 0 g) refl in
-    reset-joined x r a ∙ (λ i. record { whole = set-out (r .whole) x 0 h i; group = set-out (r .group) x 0 g i; prices = r .prices })
-
--- So a reset keeps a region well-formed whatever the timer.
-pub reset-any-well-formed : (r : PricedRegion) → WellFormed r → (x : ℕ) → WellFormed (reset x r)
-reset-any-well-formed r w x = go (decLt x (length (r .whole)))
-  where
-    go : Dec (x < length (r .whole)) → WellFormed (reset x r)
-    go (yes p) = reset-well-formed r w x p
-    go (no p) = subst WellFormed (sym (reset-absent r w x (omega arith))) w
-
-pub resetAll-any-well-formed : (xs : List ℕ) (r : PricedRegion) → WellFormed r → WellFormed (resetAll xs r)
-unfolding resetAll
-resetAll-any-well-formed [] r w = w
-resetAll-any-well-formed (x ∷ xs) r w = resetAll-any-well-formed xs (reset x r) (reset-any-well-formed r w x)
 
 pub start-gives : (n : ℕ) (t : Region) → 0 < n → n ≤ mostTimers → t ≡ pack (start n) → Gives n t (start n)
 start-gives n t p few e = gives n t (start n) few (start-well-formed n p) (start-timers n .0) e

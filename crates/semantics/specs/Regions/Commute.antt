@@ -3,7 +3,7 @@
 use mathlib.Core.Path.{_≡_, refl, ap, _∙_, sym, subst, fun-ext}
 use mathlib.Core.Bool.{Bool, true, false, _||_, true≢false}
 use mathlib.Core.Logic.{⊎-elim}
-use mathlib.Core.List.{List, [], _∷_, List·Memᴰ, List·Memᴰ·head, List·Memᴰ·tail, List·Memᴰ·not-nil, List·Memᴰ·cases-cons}
+use mathlib.Core.List.{List, [], _∷_, List·Memᴰ, List·Memᴰ·head, List·Memᴰ·tail, List·Memᴰ·not-nil, List·Memᴰ·cases-cons, List·Permᴰ, List·Permᴰ·nil, List·Permᴰ·cons, List·Permᴰ·swap, List·Permᴰ·trans}
 use Prim.Native.Nat.{ℕ, zero, suc, _+_, _-_, _<_, _≤_}
 use native.Mathlib.Decide.{decLt, decLe, ℕ-discrete}
 use native.Mathlib.Omega.{arith}
@@ -15,8 +15,9 @@ use Rattle.semantics.specs.Region.{PricedRegion, WellFormed, top, reset,
 use Rattle.semantics.specs.Run.{among}
 use Rattle.semantics.specs.Corners.Edges.{resetAllCorner}
 use Rattle.semantics.specs.Regions.Count.{count-place}
-use Rattle.semantics.specs.Regions.Lengths.{prices-top}
+use Rattle.semantics.specs.Regions.Lengths.{prices-top, reset-timers}
 use Rattle.semantics.specs.Regions.WellFormed.{resetAll-well-formed}
+use Rattle.semantics.specs.Regions.Absent.{reset-absent, reset-any-well-formed}
 use Rattle.semantics.specs.Bounds.Prices.{price}
 use Rattle.semantics.specs.Bounds.Reset.{ResetTo}
 use Rattle.semantics.specs.Bounds.Resets.{resets-to}
@@ -188,10 +189,10 @@ module _ (r : PricedRegion) (w : WellFormed r) where
         to′ = resets-to ys r w in-ys;
       })
 
-  -- Two resets commute.
-  pub resets-commute : (x y : ℕ) → x < length (r .whole) → y < length (r .whole) → reset x (reset y r) ≡ reset y (reset x r)
+  -- Two resets of timers that the region has. Two timers alone in one group are covered too: the first reset merges no prices, the second does.
+  there-commute : (x y : ℕ) → x < length (r .whole) → y < length (r .whole) → reset x (reset y r) ≡ reset y (reset x r)
   unfolding resetAll
-  resets-commute x y in-x in-y = resets-same (y ∷ x ∷ []) (x ∷ y ∷ []) both (swap y x) (swap x y)
+  there-commute x y in-x in-y = resets-same (y ∷ x ∷ []) (x ∷ y ∷ []) both (swap y x) (swap x y)
     where
       two : (a b z : ℕ) (P : Type 0) → (z ≡ a → P) → (z ≡ b → P) → List·Memᴰ z (a ∷ b ∷ []) → P
       two a b z P f g m =
@@ -202,3 +203,41 @@ module _ (r : PricedRegion) (w : WellFormed r) where
 
       swap : (a b z : ℕ) → List·Memᴰ z (a ∷ b ∷ []) → List·Memᴰ z (b ∷ a ∷ [])
       swap a b z = two a b z (List·Memᴰ z (b ∷ a ∷ [])) (λ e. List·Memᴰ·tail (List·Memᴰ·head e)) (λ e. List·Memᴰ·head e)
+
+  -- The reset of a timer that it does not have changes nothing.
+  absent-commute : (x y : ℕ) → length (r .whole) ≤ x → reset x (reset y r) ≡ reset y (reset x r)
+  absent-commute x y h =
+      reset-absent (reset y r) (reset-any-well-formed r w y) x (rw (reset-timers r y .whole) h) ∙ ap (reset y) (sym (reset-absent r w x h))
+
+  -- Two resets commute.
+  pub resets-commute : (x y : ℕ) → reset x (reset y r) ≡ reset y (reset x r)
+  resets-commute x y = go (decLt x (length (r .whole))) (decLt y (length (r .whole)))
+    where
+      go : Dec (x < length (r .whole)) → Dec (y < length (r .whole)) → reset x (reset y r) ≡ reset y (reset x r)
+      go (yes p) (yes q) = there-commute x y p q
+      go (yes p) (no q) = sym (absent-commute y x (omega arith))
+      go (no p) d = absent-commute x y (omega arith)
+
+  -- To name a timer twice is to name it once.
+  pub resets-twice : (x : ℕ) → reset x (reset x r) ≡ reset x r
+  unfolding resetAll
+  resets-twice x = go (decLt x (length (r .whole)))
+    where
+      once : (z : ℕ) → List·Memᴰ z (x ∷ x ∷ []) → List·Memᴰ z (x ∷ [])
+      once z m = ⊎-elim (λ e. List·Memᴰ·head e) (λ n. n) (List·Memᴰ·cases-cons m)
+
+      is : (z : ℕ) → List·Memᴰ z (x ∷ []) → z ≡ x
+      is z m = ⊎-elim (λ e. e) (λ n. absurd (List·Memᴰ·not-nil n)) (List·Memᴰ·cases-cons m)
+
+      go : Dec (x < length (r .whole)) → reset x (reset x r) ≡ reset x r
+      go (yes p) = resets-same (x ∷ x ∷ []) (x ∷ []) (λ z m. rw (is z (once z m)) p) once (λ z m. List·Memᴰ·tail m)
+      go (no p) = reset-absent (reset x r) (reset-any-well-formed r w x) x (rw (reset-timers r x .whole) (omega arith))
+
+-- "The region and its prices come out the same in every order": by a list of timers and by any rearrangement of it, whatever timers they are and
+-- however often it names each.
+pub resets-rearranged : {xs ys : List ℕ} → List·Permᴰ xs ys → (r : PricedRegion) → WellFormed r → resetAll xs r ≡ resetAll ys r
+unfolding resetAll
+resets-rearranged List·Permᴰ·nil r w = refl
+resets-rearranged (List·Permᴰ·cons {a = x} e p) r w = rw (sym e) (resets-rearranged p (reset x r) (reset-any-well-formed r w x))
+resets-rearranged (List·Permᴰ·swap {a = x} {b = y} {l = zs} e f) r w = rw (sym e, sym f) (ap (resetAll zs) (resets-commute r w y x))
+resets-rearranged (List·Permᴰ·trans p q) r w = resets-rearranged p r w ∙ resets-rearranged q r w

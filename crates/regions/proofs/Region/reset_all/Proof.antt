@@ -1,23 +1,26 @@
--- `regions::Region::reset_all` meets its contract. The loop has reset the timers before the present one that the byte names.
+-- `regions::Region::reset_all` meets its contract. The loop has reset the timers above the present one that the byte names.
 -- Assumes nothing.
-use mathlib.Core.Path.{refl, _∙_}
+use mathlib.Core.Path.{_∙_}
 use mathlib.Core.Logic.{⊎-elim}
 use Prim.Native.Nat.{_-_}
 use native.Mathlib.Omega.{arith}
 use borrow.Author.Needs.{needs}
 use Rattle.regions.specs.Held.{view}
-use Rattle.regions.proofs.Resets.{ResetBelow, named-reset, unnamed-kept, all-reset}
+use Rattle.regions.proofs.Resets.{ResetSome, none-reset, named-reset, unnamed-kept, all-reset}
 use Rattle.regions.proofs.Region.reset_all.Statement.{statement}
 use Rattle.regions.proofs.Region.reset_all.Tie as tie
 
 abbrev Inv-loop : tie.InvT-loop
-Inv-loop resets region₀ timer₀ region timer = ResetBelow resets (view region₀) timer region
+Inv-loop resets region₀ done₀ region done = ResetSome resets (view region₀) done region
 
 abbrev μ-loop : tie.MeasureT-loop
-μ-loop resets region₀ timer₀ region timer = 3 - timer
+μ-loop resets region₀ done₀ region done = 3 - done
 
 loop-holds : tie.Need-loop-holds Inv-loop μ-loop
-loop-holds c = record { few = omega arith; valid = c .pre; gives = refl }
+loop-holds c = none-reset _ _ (c .pre)
+
+sub-timer : tie.Need-sub-timer Inv-loop μ-loop
+sub-timer c = omega arith
 
 cast-if1 : tie.Need-cast-if1 Inv-loop μ-loop
 cast-if1 c = search needs
@@ -25,11 +28,14 @@ cast-if1 c = search needs
 shr-if1 : tie.Need-shr-if1 Inv-loop μ-loop
 shr-if1 c = search needs
 
+cast-reset : tie.Need-cast-reset Inv-loop μ-loop
+cast-reset c = search needs
+
 reset-requires : tie.Need-reset-requires Inv-loop μ-loop
 reset-requires c κs = (c .before .before .loop .inv .valid, omega arith)
 
-add-timer : tie.Need-add-timer Inv-loop μ-loop
-add-timer c = omega arith
+add-done : tie.Need-add-done Inv-loop μ-loop
+add-done c = omega arith
 
 loop-less : tie.Need-loop-less Inv-loop μ-loop
 loop-less c = omega arith
@@ -52,10 +58,12 @@ reset-all-spec =
     Inv-loop
     μ-loop
     loop-holds
+    sub-timer
     cast-if1
     shr-if1
+    cast-reset
     reset-requires
-    add-timer
+    add-done
     loop-less
     loop-again
     returns)

@@ -24,6 +24,25 @@ pub fn least_charge(table: &Table, most_rounds: u64) -> Outcome {
     }
 }
 
+/// The region that resets of timers, one after another, make of a region.
+pub fn reset(parts: &Parts, timers: &[usize]) -> Result<Parts, String> {
+    match parts.whole.len() {
+        1 => Region::<1>::of(parts).map(|region| region.reset_all(timers).parts()),
+        2 => Region::<2>::of(parts).map(|region| region.reset_all(timers).parts()),
+        3 => Region::<3>::of(parts).map(|region| region.reset_all(timers).parts()),
+        n => Err(format!("a region has 1 to 3 timers, not {n}")),
+    }
+}
+
+/// A priced region by its parts: of each timer its whole part and the number of its group, and the
+/// prices c0 to ck.
+#[derive(Clone, Debug, PartialEq, Eq)]
+pub struct Parts {
+    pub whole: Vec<u8>,
+    pub group: Vec<u8>,
+    pub prices: Vec<u32>,
+}
+
 /// The prices c0 to ck of a region; those after ck are kept at 0, so that all four can be compared.
 /// A sum that does not fit stays at the most that does. No least charge has such a price on its way,
 /// as it is less than 2^16 charges of at most 65,535, so how such prices compare changes nothing.
@@ -43,6 +62,29 @@ struct Region<const N: usize> {
 
 impl<const N: usize> Region<N> {
     const START: Self = Region { whole: [0; N], group: [0; N], top: 0, prices: [0; 4] };
+
+    /// The region with these parts, if they are those of one: each group but r0 holds a timer, and
+    /// there is one price more than that.
+    fn of(parts: &Parts) -> Result<Self, String> {
+        let none = || format!("no region: {parts:?}");
+        let group: [u8; N] = parts.group[..].try_into().map_err(|_| none())?;
+        let top = group.iter().fold(0, |top, &i| top.max(i));
+        let is_full = (1..=top).all(|i| group.contains(&i));
+        if !is_full || parts.prices.len() != usize::from(top) + 1 {
+            return Err(none());
+        }
+        let mut prices = Prices::default();
+        prices[..=top as usize].copy_from_slice(&parts.prices);
+        Ok(Region { whole: parts.whole[..].try_into().map_err(|_| none())?, group, top, prices })
+    }
+
+    fn parts(&self) -> Parts {
+        Parts {
+            whole: self.whole.to_vec(),
+            group: self.group.to_vec(),
+            prices: self.prices[..=self.top as usize].to_vec(),
+        }
+    }
 
     fn r0_is_empty(&self) -> bool {
         !self.group.contains(&0)
@@ -96,6 +138,11 @@ impl<const N: usize> Region<N> {
             self.top -= 1;
         }
         self
+    }
+
+    /// Definition 6, for several timers one after another.
+    fn reset_all(self, timers: &[usize]) -> Self {
+        timers.iter().fold(self, |region, &timer| region.reset(timer))
     }
 
     /// Definition 7, there called increment.
@@ -185,7 +232,7 @@ fn search<const N: usize>(table: &Table, most_rounds: u64) -> Outcome {
         list.push(region.prices);
         for (step, windows) in &moves_from[mode] {
             if region.meets(windows) {
-                let next = step.resets.iter().fold(region, |next, &timer| next.reset(timer));
+                let next = region.reset_all(&step.resets);
                 if next.meets(&insides[step.to]) {
                     waiting.push_back((step.to, next.charge(step.price)));
                 }

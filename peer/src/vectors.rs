@@ -1,7 +1,9 @@
 //! Runs the shared vectors through the C interface: files with one JSON object a line, which say a
-//! call, its inputs and the answer. The independent planner is held to them too.
+//! call, its inputs and the answer. The independent planner is held to them too. Resets of regions
+//! have no call in C.
 
 mod fields;
+mod resets;
 
 use crate::c_form;
 use crate::dijkstra::{self, Answer};
@@ -100,6 +102,7 @@ fn line(text: &str) -> Result<Line, String> {
                 }
             }
         }
+        Must::Reset => resets::hold(&line)?,
         Must::Rewrite { table, capacity, written } => {
             if let Ok(form) = forms::read(&table, &mut random)? {
                 let given = forms::given(&form, c_form::Form::zero())?;
@@ -134,6 +137,8 @@ enum Must {
         capacity: usize,
         written: Written,
     },
+    /// Resets of a region.
+    Reset,
     /// The table read, and then written.
     Rewrite {
         table: Vec<u8>,
@@ -172,6 +177,7 @@ fn must(line: &Json) -> Result<Must, String> {
             let written = told(line, written_told, written)?;
             Ok(Must::Rewrite { table, capacity, written })
         }
+        "reset" => Ok(Must::Reset),
         other => Err(format!("there is no call {other}")),
     }
 }

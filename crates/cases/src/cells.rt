@@ -6,7 +6,7 @@ use regions::Region;
 use regions::nodes;
 
 // Ceilings by which there is one cell, so that nodes have the numbers of its corners.
-const ONE_CELL: [u8; Region::MOST_TIMERS] = [0; Region::MOST_TIMERS];
+pub const ONE_CELL: [u8; Region::MOST_TIMERS] = [0; Region::MOST_TIMERS];
 
 pub fn corners(timers: usize)
     requires { ⌜ (1 ≤ timers) × (timers ≤ mostTimers) ⌝ }

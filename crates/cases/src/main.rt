@@ -7,6 +7,7 @@ mod places;
 mod plans;
 mod print;
 mod readings;
+mod resets;
 mod scripts;
 mod searches;
 mod tokens;
@@ -61,6 +62,8 @@ const SEARCH: usize = 0x6561_7263_6800_0000;
 
 const CHAIN: usize = 0x6368_6169_6e00_0000;
 
+const RESET: usize = 0x7265_7365_7400_0000;
+
 const WRITE: usize = 0x7772_6974_6500_0000;
 
 const TITLE: usize = 0x3d00_0000;
@@ -75,6 +78,7 @@ fn called(name: usize, line: &[u8], numbers: &[usize; TOKENS], bytes: &[u8]) {
         LEND => lends::lend(bytes),
         WRITE => writes::write(numbers, bytes),
         REGION => scripts::region(numbers),
+        RESET => resets::reset(numbers, bytes),
         CORNERS => cells::corners(scripts::timers(numbers)),
         READ | SEARCH | CHAIN => of_table(numbers, bytes),
         0 | COMMENT => {}

@@ -112,3 +112,18 @@ fn the_independent_planner_is_held_to_every_line() {
     }
     assert!(lines > 0);
 }
+
+#[test]
+fn a_reset_is_held_to_the_script() {
+    let reset_line = |groups: &str, resets: u32, prices: &str| {
+        let region = format!(r#""whole":[5,7],"group":[{groups}],"prices":[9,4],"mask":{resets}"#);
+        let expect = format!(r#""whole":[0,0],"group":[0,0],"prices":[{prices}]"#);
+        line(&format!(r#"{{"call":"reset",{region},"expect":{{{expect}}}}}"#))
+    };
+    assert_eq!(reset_line("1,1", 3, "4"), Ok(Line::Right));
+    assert!(reset_line("1,1", 3, "9").is_err());
+    // The script has no such line.
+    assert!(reset_line("1,1", 7, "4").is_err());
+    // No region has these groups.
+    assert!(reset_line("2,2", 3, "4").is_err());
+}

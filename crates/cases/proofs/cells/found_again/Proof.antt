@@ -1,20 +1,17 @@
 -- `cases::cells::found_again` meets its contract. No more corners are found again than were looked at.
 -- Assumes nothing.
-use Prim.Native.Nat.{ℕ, zero, suc, _-_, _<_, _≤_}
+use Prim.Native.Nat.{ℕ, _-_, _<_, _≤_}
 use mathlib.Core.Logic.{⊎-elim}
-use mathlib.Core.Path.{_≡_, refl, _∙_}
-use mathlib.Core.List.{List, [], _∷_}
+use mathlib.Core.Path.{_≡_, _∙_}
 use native.Mathlib.Omega.{arith}
 use lib.ListN.{take}
-use lib.Seq.{length-take-le}
 use Rattle.semantics.specs.Nodes.Node.{nodeAt}
-use Rattle.semantics.specs.Regions.Lists.{replicate-zero}
 use Rattle.regions.specs.declared.nodes.NodeRegion.{NodeRegion}
 use Rattle.regions.specs.Held.{mostTimers, view, Valid}
 use Rattle.regions.specs.Nodes.{mostModes, CeilingsFew, Padded, packNodeRegion}
 use Rattle.regions.specs.Laws.Fields.{holds, top-is}
 use Rattle.regions.specs.Laws.Nodes.{corners-few}
-use Rattle.regions.specs.Laws.NodeRegion.{node-region-holds}
+use Rattle.cases.proofs.OneCell.{zeros, zeros-few, zeros-padded, zeros-many, cell-region}
 use Rattle.cases.proofs.cells.found_again.Statement.{statement}
 use Rattle.cases.proofs.cells.found_again.Tie as tie
 
@@ -29,20 +26,6 @@ corners-requires c κs = c .pre .1
 
 loop-holds : tie.Need-loop-holds Inv-loop μ-loop
 loop-holds c = omega arith
-
--- The ceilings, all 0.
-abbrev zeros : List ℕ
-zeros = 0 ∷ 0 ∷ 0 ∷ []
-
-zeros-few : CeilingsFew zeros
-zeros-few i = omega (arith, replicate-zero mostTimers i)
-
-zeros-padded : (n : ℕ) → n ≤ mostTimers → Padded n zeros
-zeros-padded zero h = refl
-zeros-padded (suc zero) h = refl
-zeros-padded (suc (suc zero)) h = refl
-zeros-padded (suc (suc (suc zero))) h = refl
-zeros-padded (suc (suc (suc (suc n)))) h = absurd (omega arith)
 
 region-at-requires : tie.Need-region-at-requires Inv-loop μ-loop
 region-at-requires c κs =
@@ -61,10 +44,9 @@ ready :
     (n i : ℕ) → 1 ≤ n → n ≤ mostTimers → (r : NodeRegion) → r ≡ packNodeRegion (take n zeros) (nodeAt (take n zeros) i)
     → Valid (r .region) × (r .index ≤ r .region .top) × (0 < mostModes) × CeilingsFew zeros × Padded (r .region .timers) zeros
 ready n i some few r e =
-    let many = length-take-le n zeros (omega arith) in
-    let h = node-region-holds (take n zeros) (omega (arith, many)) (omega (arith, many)) i r e in
+    let h = cell-region n some few i r e in
     let top = top-is (r .region) (view (r .region)) (holds (r .region) (h .valid)) in
-    (h .valid, omega (arith, h .inside, top), omega arith, zeros-few, rw (h .timers-are ∙ many) (zeros-padded n few))
+    (h .valid, omega (arith, h .inside, top), omega arith, zeros-few, rw (h .timers-are ∙ zeros-many n some few) (zeros-padded n few))
 
 node-of-requires : tie.Need-node-of-requires Inv-loop μ-loop
 node-of-requires c κs =

@@ -3,3 +3,4 @@ pub mod Path
 pub mod Distance
 pub mod Near
 pub mod CornerGraph
+pub mod MinuteGraph

@@ -19,6 +19,9 @@ pub mod Order
 pub mod Answer
 -- What demand 3 says of a charge, over runs.
 pub mod Demand
+-- Tables whose conditions are all ≤, = or ≥, and timetables in whole minutes.
+pub mod Closed
+pub mod Timetable
 -- Theory, which nobody has to believe. Constructors are distinct.
 pub mod Distinct
 -- What the theorems ask of an automaton.
@@ -37,3 +40,5 @@ pub mod Paths
 pub mod Bounds
 -- The answer: that it is the best of all chains, and how it is read off the words of a search.
 pub mod Answers
+-- Timetables in whole minutes: that the one of the definition is the best of all, and what it is charged.
+pub mod Timetables

@@ -27,3 +27,8 @@ pub mod Priced
 pub mod UpTo
 pub mod Computed
 pub mod Found
+-- Paths by their labels, and the walk that finds the first of them of least cost.
+pub mod Labelled
+pub mod Walk
+pub mod WalkOn
+pub mod WalkEnd

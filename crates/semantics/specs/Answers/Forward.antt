@@ -32,7 +32,7 @@ use Rattle.semantics.specs.Answers.System.{chains, chains-follow, target
 use Rattle.semantics.specs.Answers.Table.{routing}
 
 -- An entry that is as near as the cost B is kept.
-near-keeps :
+pub near-keeps :
     (x y : Entry) (B b : Cost) → x ≡ reached B → y ≡ reached b → b .charge ≤ B .charge → b .steps ≤ B .steps → near x y ≡ reached b
 near-keeps x y B b p q h k = rw (p, q, le-leb (b .charge) (B .charge) h, le-leb (b .steps) (B .steps) k) refl
 

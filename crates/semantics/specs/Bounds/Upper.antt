@@ -89,7 +89,7 @@ module _ (a : Automaton) (ok : Proper a) (made : List ℕ) (l : ℕ) (r : Priced
       approach-cast (sym (ap (λ (u : Edge). u .corner) d) ∙ c .leads) (sym (c .sum ∙ ap (λ (u : Edge). price r (c .from) + u .weight) d))
       (approach-move a ok made l e r w sized (c .from) (price r (c .from)) j o g t (n (c .from) (c .there)))
 
-movesOf-cons : (byte : ℕ) (bytes : List ℕ) → movesOf (byte ∷ bytes) ≡ movesOf (byte ∷ []) ++ movesOf bytes
+pub movesOf-cons : (byte : ℕ) (bytes : List ℕ) → movesOf (byte ∷ bytes) ≡ movesOf (byte ∷ []) ++ movesOf bytes
 unfolding movesOf
 movesOf-cons byte bytes = go (ltb byte 64)
   where

@@ -54,7 +54,7 @@ test-middle greater v w g =
     (λ t. omega (arith, ltb-true v (high w g) t), λ h. lt-ltb v (high w g) (omega arith))
 
 -- A step in the whole part is a step of q in the value.
-scale-lt : (q : ℕ) {a b : ℕ} → a < b → q * a + q ≤ q * b
+pub scale-lt : (q : ℕ) {a b : ℕ} → a < b → q * a + q ≤ q * b
 scale-lt q {a} {b} h = omega (arith, mul-le-mul-left q h, mul-suc q a)
 
 -- The value of a timer, w minutes and f q-ths, is to v minutes as the middle of its interval is.

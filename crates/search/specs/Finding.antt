@@ -5,7 +5,7 @@ use mathlib.Core.List.{List, _++_}
 use Prim.Native.Nat.{ℕ, _*_, _≤_, _<_}
 use lib.ListN.{length, drop, replicate}
 use Rattle.semantics.specs.Order.{Cost, cost}
-use Rattle.semantics.specs.Graph.Path.{reached, infinity}
+use Rattle.semantics.specs.Graph.Path.{Graph, reached, infinity}
 use Rattle.semantics.specs.Paths.Words.{stored}
 use Rattle.semantics.specs.Paths.Explored.{Explored}
 use Rattle.semantics.specs.Paths.Near.{BestTarget, TargetWithin}
@@ -40,11 +40,15 @@ pub record FindReady (t rs : List ℕ) (s : Space) (goal : ℕ) (ws : List ℕ) 
   pub upto : ℕ
   pub between : Between (graphOf t goal) (startOf t) (s .nodes) upto ws
 
--- The graph was explored as far as the cost, which is the least of the goal's nodes. The words behind those of the nodes are the same.
-pub record FoundGoal (t : List ℕ) (s : Space) (goal : ℕ) (ws ws′ : List ℕ) (r : CostHeld) : Type 0 where
-  pub explored : Explored (graphOf t goal) (startOf t) (costEntry r) (costsIn (s .nodes) ws′)
-  pub within : (a : Cost) → costEntry r ≡ reached a → TargetWithin (graphOf t goal) (costsIn (s .nodes) ws′) a
-  pub best : BestTarget (graphOf t goal) (costsIn (s .nodes) ws′) (costEntry r)
+-- The graph was explored from s as far as the cost, which is the least of its targets. The words behind those of the nodes are the same.
+pub record FoundTarget (g : Graph) (s nodes : ℕ) (ws ws′ : List ℕ) (r : CostHeld) : Type 0 where
+  pub explored : Explored g s (costEntry r) (costsIn nodes ws′)
+  pub within : (a : Cost) → costEntry r ≡ reached a → TargetWithin g (costsIn nodes ws′) a
+  pub best : BestTarget g (costsIn nodes ws′) (costEntry r)
   pub blank : r .charge ≡ infinity → r .steps ≡ infinity
-  pub rest : drop (2 * s .nodes) ws′ ≡ drop (2 * s .nodes) ws
+  pub rest : drop (2 * nodes) ws′ ≡ drop (2 * nodes) ws
   pub kept : length ws′ ≡ length ws
+
+-- That of a table, for a goal.
+abbrev pub FoundGoal : List ℕ → Space → ℕ → List ℕ → List ℕ → CostHeld → Type 0
+FoundGoal t s goal = FoundTarget (graphOf t goal) (startOf t) (s .nodes)

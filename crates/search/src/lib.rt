@@ -8,7 +8,7 @@ ghost use Rattle.search.specs.Outcome.{nodesOf, answered, searched, clea
 
 mod edges;
 mod settle;
-mod words;
+pub mod words;
 
 use regions::nodes;
 use regions::nodes::Nodes;
@@ -40,7 +40,7 @@ pub fn nodes_of(table: &[u8; TABLE]) -> Searched
 }
 
 // And 9, if so many words are too few.
-fn room(table: &[u8; TABLE], lent: usize) -> Searched
+pub fn room(table: &[u8; TABLE], lent: usize) -> Searched
     requires { ⌜ IsTable (now table) ⌝ }
     ensures { λ r. ⌜ r ≡ answered (automatonOf (now (table .entry))) lent ⌝ }
 {

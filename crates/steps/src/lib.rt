@@ -141,7 +141,7 @@ fn led_by_delay(
 }
 
 // The first move of a mode, from the byte on, that is not passed over, or NONE.
-fn move_from(
+pub fn move_from(
     rules: &[u8; RULES],
     halves: [u8; Region::MOST_TIMERS],
     mode: usize,

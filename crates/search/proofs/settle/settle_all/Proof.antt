@@ -4,7 +4,8 @@
 use mathlib.Core.Path.{refl}
 use native.Mathlib.Omega.{arith}
 use Rattle.space.specs.Laws.NodeRegion.{region-ready, corner-at}
-use Rattle.search.proofs.Settling.{turnsLeft, Turn, turn-starts, turn-none, AtNode, node-room, turn-goal, edges-ready, settle-ready, next-room, turn-next, turn-less}
+use Rattle.search.proofs.Turning.{turnsLeft, turn-none}
+use Rattle.search.proofs.Settling.{Turn, turn-starts, AtNode, node-room, turn-goal, edges-ready, settle-ready, next-room, turn-next, turn-less}
 use Rattle.search.proofs.settle.settle_all.Statement.{statement}
 use Rattle.search.proofs.settle.settle_all.Tie as tie
 

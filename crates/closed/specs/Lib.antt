@@ -1,0 +1,2 @@
+-- What the contracts of the private functions mean.
+pub mod Closed

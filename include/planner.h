@@ -1,7 +1,8 @@
 /*
  * The changeover planner: makes a unit's table from its fields (planner_write) and fields from a table (planner_read); says how much
- * memory to lend for planning a table (planner_lend); and finds the least total charge with which the unit reaches its goal mode, and a
- * route that comes to it (planner_plan).
+ * memory to lend for planning a table (planner_lend); finds the least total charge with which the unit reaches its goal mode, and a route
+ * that comes to it (planner_plan); and, for a table that has neither < nor >, when to make which move by the wall clock to be charged
+ * exactly that (planner_timetable).
  *
  * Link libplanner.a. For x86-64 `rt staticlib planner` writes it to target/staticlib/; for Cortex-M0+ and M4 `unit/build` writes it to
  * target/unit/m0plus/ and target/unit/m4/. It needs memcpy and memset, on Cortex-M also libgcc, no heap and no operating system: it works
@@ -23,8 +24,9 @@ extern "C" {
 
 /* What the calls return. */
 enum {
-    PLANNER_ROUTE = 0, /* planner_plan: a route was found; its bytes, charge and number of steps are written */
-    PLANNER_OK = 0,    /* planner_lend, planner_write, planner_read: what was asked for is written */
+    PLANNER_ROUTE = 0,     /* planner_plan: a route was found; its bytes, charge and number of steps are written */
+    PLANNER_TIMETABLE = 0, /* planner_timetable: there is one; its bytes, charge and number of pairs are written */
+    PLANNER_OK = 0,        /* planner_lend, planner_write, planner_read: what was asked for is written */
 
     /* Refusals 1 to 7: the bytes are no table. They are judged from the left, and the first fault decides among 1 to 5. Fields that are no
        table's get 2 to 5 from planner_write, judged as the bytes that they would be. */
@@ -40,11 +42,15 @@ enum {
     PLANNER_TOO_MANY_NODES = 8,  /* E is above 65,536 */
     PLANNER_TOO_FEW_WORDS = 9,   /* fewer than 2E words were lent */
 
-    /* Refusal 10: there is a route, and it does not fit. */
-    PLANNER_ROUTE_TOO_LONG = 10, /* the route has more steps than route bytes were lent */
+    /* Refusal 10: there is a route or a timetable, and it does not fit. */
+    PLANNER_ROUTE_TOO_LONG = 10, /* the route has more steps, or the pairs more bytes, than route bytes were lent */
 
     /* Refusal 11: the fields are in order, and their table does not fit. */
     PLANNER_DESTINATION_TOO_SHORT = 11, /* the table has more bytes than there is memory for it */
+
+    /* Refusal 12, by planner_timetable alone: the bytes are a table, but not one in whole minutes. It is judged directly after 7, so before
+       8, 9 and 10. */
+    PLANNER_NOT_CLOSED = 12,     /* a condition < or >, in whatever mode or move, reached or not */
 
     PLANNER_NO_ROUTE = 255       /* no run comes into the goal mode, whatever its moves and its delays */
 };
@@ -169,6 +175,36 @@ uint8_t planner_plan(const uint8_t *table, size_t table_len,
  */
 uint8_t planner_lend(const uint8_t *table, size_t table_len,
                      size_t *words_needed, size_t *route_needed);
+
+/*
+ * Gives a table's timetable: the moves of a run into the goal, and how many whole minutes to wait before each. The table's conditions have
+ * to be <=, = or >=, all of them; for others there is planner_plan.
+ *
+ * A pair is two bytes: whole minutes waited, 0 to 15, and then the move with that number in the table. The first wait begins at the start,
+ * in mode 0 with every timer at 0, each other one with the move before it, and nothing follows the last move. If the start is the goal
+ * there are no pairs.
+ *
+ * table, table_len  The table's bytes, as for planner_plan.
+ * words, words_len  Work memory, as for planner_plan: 2E words are needed. After PLANNER_TIMETABLE, PLANNER_NO_ROUTE and
+ *                   PLANNER_ROUTE_TOO_LONG its first 2E words are 0 and the others are untouched; after every other answer all of it is
+ *                   untouched.
+ * route, route_len  Memory for the pairs. After PLANNER_TIMETABLE the first 2 x *pairs bytes are the pairs and the others are untouched;
+ *                   after every other answer all of it is untouched. There are fewer pairs than states in whole minutes, which are modes x
+ *                   (ceiling + 1) of each timer, so that 2 x (states - 1) bytes are enough for every timetable.
+ * charge            After PLANNER_TIMETABLE the timetable's charge; otherwise untouched.
+ * pairs             After PLANNER_TIMETABLE the number of pairs, half that of their bytes; otherwise untouched.
+ *
+ * The charge is exactly what planner_plan reports for the same table and words, so that no run is charged less, in fractions of a minute
+ * neither. Among all timetables charged that it is one with the fewest pairs, and among those the first in byte order. There is a timetable
+ * exactly if there is a route: such a table gets PLANNER_NO_ROUTE from both calls or from none.
+ *
+ * Refusals in their order: 1 to 7, those of planner_plan for the same bytes; PLANNER_NOT_CLOSED; 8 and 9, as there; and, if there is a
+ * timetable, PLANNER_ROUTE_TOO_LONG where 2 x pairs is more than route_len.
+ */
+uint8_t planner_timetable(const uint8_t *table, size_t table_len,
+                          uint32_t *words, size_t words_len,
+                          uint8_t *route, size_t route_len,
+                          uint32_t *charge, size_t *pairs);
 
 /*
  * Writes the table that has a form's fields.

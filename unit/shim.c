@@ -24,6 +24,21 @@ uint8_t planner_plan(const uint8_t *table, size_t table_len,
     return answer;
 }
 
+uint8_t planner_timetable(const uint8_t *table, size_t table_len,
+                          uint32_t *words, size_t words_len,
+                          uint8_t *route, size_t route_len,
+                          uint32_t *charge, size_t *pairs)
+{
+    uint64_t wide_pairs = 0;
+    uint8_t answer =
+        wide_planner_timetable(table, table_len, words, words_len, route, route_len, charge, &wide_pairs);
+
+    if (answer == PLANNER_TIMETABLE) {
+        *pairs = (size_t)wide_pairs;
+    }
+    return answer;
+}
+
 uint8_t planner_lend(const uint8_t *table, size_t table_len,
                      size_t *words_needed, size_t *route_needed)
 {

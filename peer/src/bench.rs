@@ -1,8 +1,10 @@
-//! Measures the three planners side by side.
+//! Measures the three planners side by side; and on closed tables the timetables beside planning.
 
-use crate::call::{Call, Planner, PLANNERS};
+use crate::call::{Call, Planner, ON_CLOSED, PLANNERS};
+use crate::closed::closed;
 use crate::measure::{heap_bytes, instructions, stack_bytes};
 use crate::paper::Outcome;
+use crate::search::Search;
 use crate::table::{node_count, read};
 use std::path::Path;
 use std::process::ExitCode;
@@ -35,6 +37,12 @@ pub fn bytes(text: &str) -> Vec<u8> {
     lines.flat_map(str::split_whitespace).map(byte).collect()
 }
 
+/// The way back.
+pub fn hexadecimal(bytes: &[u8]) -> String {
+    let bytes: Vec<String> = bytes.iter().map(|byte| format!("{byte:02x}")).collect();
+    bytes.join(" ")
+}
+
 /// The name of the function in which valgrind counts.
 const MEASURED: &str = "peer_measured";
 
@@ -44,48 +52,62 @@ extern "C" fn peer_measured(call: &mut Call) {
     call.make();
 }
 
-/// The instructions of a call in this or another build of peer, as valgrind counts them; the table
-/// is told by its name or in hexadecimal. None if there is no valgrind.
-pub fn instructions_of(peer: &Path, table: &str, planner: Planner) -> Option<u64> {
-    instructions(peer, MEASURED, &["measured", table, planner.name()])
+/// The instructions of a call in this or another build of peer, as valgrind counts them. None if there
+/// is no valgrind.
+pub fn instructions_of(peer: &Path, table: &[u8], planner: Planner) -> Option<u64> {
+    instructions(peer, MEASURED, &["measured", &hexadecimal(table), planner.name()])
 }
 
-/// Makes a first call outside of what is measured, of T, and one inside. It is run by valgrind.
+/// Makes a first call outside of what is measured, of T, closed, and one inside. It is run by valgrind.
 pub fn measured(table: &str, planner: &str) -> ExitCode {
-    let planner = PLANNERS.into_iter().find(|known| known.name() == planner);
+    let planner = PLANNERS.into_iter().chain(ON_CLOSED).find(|known| known.name() == planner);
     let Some(planner) = planner else { return ExitCode::from(2) };
-    let known = TABLES.into_iter().find(|(name, _)| *name == table);
-    let text = known.map_or(table, |(_, text)| text);
-    let call = |text| {
-        let bytes = bytes(text);
+    let call = |bytes: Vec<u8>| {
         let nodes = read(&bytes).map_or(0, |table| node_count(&table));
         Call::new(planner, &bytes, nodes)
     };
-    call(TABLES[0].1).make();
-    peer_measured(&mut call(text));
+    call(closed(&bytes(TABLES[0].1))).make();
+    peer_measured(&mut call(bytes(table)));
     ExitCode::SUCCESS
 }
 
-/// Measures every table and prints one table of all.
+/// Measures every table and prints one table of all, and then another with each of them closed.
 pub fn run() -> ExitCode {
-    let mut rows = vec![heading()];
-    for (name, text) in TABLES {
-        match row(name, &bytes(text)) {
-            Ok(row) => rows.push(row),
+    let all = TABLES.map(|(name, text)| (name, bytes(text)));
+    let all_closed = all.clone().map(|(name, bytes)| (name, closed(&bytes)));
+    let caption = "\nWith < turned into ≤ and > into ≥:\n\n";
+    for (caption, tables, planners) in [("", all, PLANNERS), (caption, all_closed, ON_CLOSED)] {
+        match rows(&tables, planners) {
+            Ok(rows) => {
+                print!("{caption}");
+                print(&rows);
+            }
             Err(difference) => {
-                println!("DIFFERENCE: {name}: {difference}");
+                println!("DIFFERENCE: {difference}");
                 return ExitCode::FAILURE;
             }
         }
     }
-    print(&rows);
     ExitCode::SUCCESS
 }
 
-fn heading() -> Vec<String> {
-    let mut cells = ["table", "E", "moves", "steps"].map(String::from).to_vec();
-    for planner in PLANNERS {
-        let memory = if planner == Planner::Proved { "lent" } else { "heap" };
+/// The heading and a row for each table, by its name and bytes.
+fn rows(tables: &[(&str, Vec<u8>)], planners: [Planner; 3]) -> Result<Vec<Vec<String>>, String> {
+    let mut rows = vec![heading(planners)];
+    for (name, bytes) in tables {
+        rows.push(
+            row(name, bytes, planners).map_err(|difference| format!("{name}: {difference}"))?,
+        );
+    }
+    Ok(rows)
+}
+
+/// The first of them is a proved call, whose steps or pairs are told.
+fn heading(planners: [Planner; 3]) -> Vec<String> {
+    let [_, counted] = planners[0].proved().map_or(["", "steps"], Search::names);
+    let mut cells = ["table", "E", "moves", counted].map(String::from).to_vec();
+    for planner in planners {
+        let memory = if planner.proved().is_some() { "lent" } else { "heap" };
         for what in ["instructions", "µs", "stack", memory] {
             cells.push(format!("{} {what}", planner.name()));
         }
@@ -94,10 +116,10 @@ fn heading() -> Vec<String> {
 }
 
 /// What is measured of one table; an error tells charges that differ.
-fn row(name: &str, bytes: &[u8]) -> Result<Vec<String>, String> {
+fn row(name: &str, bytes: &[u8], planners: [Planner; 3]) -> Result<Vec<String>, String> {
     let table = read(bytes).map_err(|number| format!("refused {number}"))?;
     let nodes = node_count(&table);
-    let mut calls = PLANNERS.map(|planner| Call::new(planner, bytes, nodes));
+    let mut calls = planners.map(|planner| Call::new(planner, bytes, nodes));
     calls.iter_mut().for_each(Call::make);
     let outcomes = calls.each_ref().map(|call| call.outcome);
     let agrees = |other| other == outcomes[0] || other == Some(Outcome::GaveUp);
@@ -107,7 +129,7 @@ fn row(name: &str, bytes: &[u8]) -> Result<Vec<String>, String> {
     let mut cells = vec![name.into()];
     cells.extend([nodes, table.moves.len() as u64].map(grouped));
     cells.push(match outcomes[0] {
-        Some(Outcome::Charge(_)) => grouped(calls[0].steps as u64),
+        Some(Outcome::Charge(_)) => grouped(calls[0].count as u64),
         _ => "no route".into(),
     });
     let times = best_times(&mut calls);
@@ -117,7 +139,7 @@ fn row(name: &str, bytes: &[u8]) -> Result<Vec<String>, String> {
             continue;
         }
         let peer = std::env::current_exe().ok();
-        let counted = peer.and_then(|peer| instructions_of(&peer, name, call.planner));
+        let counted = peer.and_then(|peer| instructions_of(&peer, bytes, call.planner));
         cells.push(counted.map_or("-".into(), grouped));
         cells.push(format!("{:.1}", time.as_secs_f64() * 1e6));
         cells.push(grouped(stack_bytes(|| call.make()) as u64));
@@ -126,13 +148,13 @@ fn row(name: &str, bytes: &[u8]) -> Result<Vec<String>, String> {
     Ok(cells)
 }
 
-/// The bytes of memory beside the stack: the words lent to the proved planner, or the heap.
+/// The bytes of memory beside the stack: the words lent to a proved call, or the heap.
 fn memory(call: &mut Call, nodes: u64) -> u64 {
     let heap = heap_bytes(|| call.make()) as u64;
-    if call.planner != Planner::Proved {
+    if call.planner.proved().is_none() {
         return heap;
     }
-    assert_eq!(heap, 0, "the proved planner takes no heap");
+    assert_eq!(heap, 0, "a proved call takes no heap");
     8 * nodes
 }
 

@@ -16,14 +16,22 @@ pub enum Answer {
     Refused(u8),
     /// No chain comes into the goal.
     NoRoute,
-    /// The least charge, and the route's bytes.
+    /// The least charge, and the route's bytes; of a timetable the bytes of its pairs.
     Route { charge: u32, steps: Vec<u8> },
 }
 
 impl Answer {
     /// Whether it is given after a search.
     pub fn is_searched(&self) -> bool {
-        !matches!(self, Answer::Refused(1..=9))
+        !matches!(self, Answer::Refused(1..=9 | 12))
+    }
+
+    /// The least charge, if something was found.
+    pub fn charge(&self) -> Option<u32> {
+        match self {
+            Answer::Route { charge, .. } => Some(*charge),
+            _ => None,
+        }
     }
 }
 

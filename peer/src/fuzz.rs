@@ -1,15 +1,18 @@
 //! Holds the proved planner to the independent one, to the paper's algorithm and to runs; and the proved
-//! writer to the independent one.
+//! timetables and the proved writer to the independent ones.
 
 use crate::dijkstra::{self, Answer};
 use crate::forms;
 use crate::generate::{case, Case, Kind};
 use crate::lend::{self, Needs};
+use crate::lent;
 use crate::memory::{zeroed, Memory};
 use crate::paper::{self, Outcome};
 use crate::random::Random;
 use crate::runs;
+use crate::search::Search;
 use crate::table::{self, node_count, Table};
+use crate::timetables;
 use std::collections::BTreeMap;
 use std::process::ExitCode;
 
@@ -21,8 +24,7 @@ pub fn run(seed: u64, count: u64) -> ExitCode {
     let mut tally = Tally::default();
     for index in 0..count {
         let case = case(seed, index);
-        let checked = check(&case, &mut tally).and_then(|()| forms::check(&case, &mut tally.forms));
-        if let Err(difference) = checked {
+        if let Err(difference) = check_all(&case, &mut tally) {
             let hex: String = case.table.iter().map(|byte| format!(" {byte:02x}")).collect();
             println!(
                 "DIFFERENCE: seed {seed}, case {index}, {:?}\ntable{hex}\n{difference}",
@@ -54,6 +56,7 @@ struct Tally {
     searched: u64,
     gave_up: u64,
     held_to_runs: u64,
+    timetables: timetables::Tally,
     forms: forms::Tally,
 }
 
@@ -89,8 +92,16 @@ impl Tally {
         let held = self.searched - self.gave_up;
         println!("held to the paper's algorithm: {held} (it gave up on {} more)", self.gave_up);
         println!("held to runs: {}", self.held_to_runs);
+        self.timetables.print();
         self.forms.print();
     }
+}
+
+/// Makes every call of one case; an error tells a difference.
+fn check_all(case: &Case, tally: &mut Tally) -> Result<(), String> {
+    check(case, tally)?;
+    timetables::check(case, &mut tally.timetables)?;
+    forms::check(case, &mut tally.forms)
 }
 
 /// Plans one table with every planner; an error tells a difference.
@@ -104,13 +115,16 @@ fn check(case: &Case, tally: &mut Tally) -> Result<(), String> {
     let as_said = random.one_in(4);
     let (words, route_bytes) = match needs {
         Needs::Memory { words, route_bytes } if as_said => (words, route_bytes),
-        _ => (words_lent(&mut random, nodes), route_bytes_lent(&mut random, &unlimited)),
+        _ => (
+            lent::words(&mut random, nodes),
+            lent::route_bytes(&mut random, Search::Plan, &unlimited),
+        ),
     };
     let with_lent = |text| format!("{words} words and {route_bytes} route bytes lent\n{text}");
-    let before = Memory::new(&case.table, words, route_bytes, &mut random);
+    let before = Memory::new(Search::Plan, &case.table, words, route_bytes, &mut random);
     let answer = dijkstra::plan(&case.table, words, route_bytes);
     let must = before.clone().after(&answer, zeroed(&answer, nodes));
-    let got = before.planned();
+    let got = before.called();
     if must != got {
         return Err(with_lent(format!("independent: {answer:?}\n{}", must.unlike(&got))));
     }
@@ -159,39 +173,6 @@ pub fn outcome_of(answer: &Answer) -> Outcome {
     }
 }
 
-/// Mostly just enough words, else about as many, or the unit's, or few.
-fn words_lent(random: &mut Random, nodes: Option<u64>) -> usize {
-    let small = random.below(200) as usize;
-    match nodes.map(|nodes| 2 * nodes as usize) {
-        Some(needed) if needed <= 2 * 65_536 => match random.below(20) {
-            0 => needed - 1,
-            1 => needed + 1 + small,
-            2 => needed + 1,
-            3 => 6_000,
-            4 => 0,
-            5 => small,
-            _ => needed,
-        },
-        Some(needed) if random.one_in(8) => needed.min(150_000), // Refused by 8 nevertheless.
-        _ => random.pick(&[0, small, small, small, 6_000]),
-    }
-}
-
-/// Mostly just enough route bytes, else about as many, or the unit's, or none.
-fn route_bytes_lent(random: &mut Random, unlimited: &Answer) -> usize {
-    let steps = match unlimited {
-        Answer::Route { steps, .. } => steps.len(),
-        _ => 3, // None will be written.
-    };
-    match random.below(10) {
-        0 => steps.saturating_sub(1),
-        1 => steps + 1 + random.below(40) as usize,
-        2 => 0,
-        3 | 4 => 256,
-        _ => steps,
-    }
-}
-
 #[cfg(test)]
 mod tests {
     use super::*;
@@ -201,12 +182,12 @@ mod tests {
         let mut tally = Tally::default();
         for index in 0..2_000 {
             let case = case(3, index);
-            assert_eq!(check(&case, &mut tally), Ok(()), "case {index}");
-            assert_eq!(forms::check(&case, &mut tally.forms), Ok(()), "case {index}");
+            assert_eq!(check_all(&case, &mut tally), Ok(()), "case {index}");
         }
         assert!(tally.refused.keys().copied().eq(1..=10));
         assert!(tally.no_route > 0 && tally.routes.len() > 4 && tally.with_linger > 0);
         assert!(tally.with_high > 300 && tally.charged_above_65_535 > 10);
+        assert!(tally.timetables.is_varied());
         assert!(tally.forms.is_varied());
     }
 }

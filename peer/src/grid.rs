@@ -82,12 +82,13 @@ fn reached(charges: &[u64]) -> impl Iterator<Item = (usize, &u64)> {
     charges.iter().enumerate().filter(|(_, &charge)| charge != u64::MAX)
 }
 
-/// The points of a table: a value in q-ths for each timer, 0 to its ceiling, in one number.
-struct Grid<'a> {
+/// The points of a table: a value in q-ths for each timer, 0 to its ceiling, in one number. The start's
+/// is 0.
+pub struct Grid<'a> {
     table: &'a Table,
     q: u32,
     /// The number of points.
-    points: usize,
+    pub points: usize,
     /// What one q-th of each timer adds to a point.
     strides: Vec<usize>,
     /// Whether a mode's conditions hold in a point, at mode × points + point.
@@ -95,10 +96,10 @@ struct Grid<'a> {
 }
 
 /// The values of the timers in q-ths.
-type Values = [u32; 3];
+pub type Values = [u32; 3];
 
 impl<'a> Grid<'a> {
-    fn new(table: &'a Table, q: u32) -> Self {
+    pub fn new(table: &'a Table, q: u32) -> Self {
         let mut points = 1;
         let mut strides = Vec::new();
         for ceiling in &table.ceilings {
@@ -114,7 +115,7 @@ impl<'a> Grid<'a> {
         grid
     }
 
-    fn values(&self, point: usize) -> Values {
+    pub fn values(&self, point: usize) -> Values {
         let mut values = [0; 3];
         let mut rest = point;
         for (value, ceiling) in values.iter_mut().zip(&self.table.ceilings) {
@@ -143,24 +144,42 @@ impl<'a> Grid<'a> {
         u64::from(step.price) * u64::from(self.q)
     }
 
+    /// Whether the mode may be in this point: its conditions hold there.
+    pub fn is_allowed(&self, mode: usize, point: usize) -> bool {
+        self.holds[mode * self.points + point]
+    }
+
     /// Where the move leads from this point of its from mode, if it is allowed.
-    fn moved(&self, step: &Move, point: usize, values: &Values) -> Option<usize> {
+    pub fn moved(&self, step: &Move, point: usize, values: &Values) -> Option<usize> {
         if !self.hold(&step.conditions, values) {
             return None;
         }
         let back: usize = step.resets.iter().map(|&t| values[t] as usize * self.strides[t]).sum();
-        Some(point - back).filter(|to| self.holds[step.to * self.points + to])
+        Some(point - back).filter(|&to| self.is_allowed(step.to, to))
+    }
+
+    /// Where a wait of one q-th leads from this point, if it is allowed.
+    pub fn later(&self, mode: usize, point: usize, values: &Values) -> Option<usize> {
+        let mut ceilings = self.table.ceilings.iter().zip(values);
+        if ceilings.any(|(ceiling, &value)| value == ceiling * self.q) {
+            return None;
+        }
+        Some(point + self.tick()).filter(|&to| self.is_allowed(mode, to))
+    }
+
+    /// What one q-th of every timer adds to a point.
+    fn tick(&self) -> usize {
+        self.strides.iter().sum()
     }
 
     /// Hands on every allowed wait of one q-th or more: the point it leads to and its charge.
     fn waits(&self, mode: usize, point: usize, mut hand_on: impl FnMut(usize, u64)) {
         let values = self.values(point);
         let room = self.table.ceilings.iter().zip(values).map(|(c, v)| c * self.q - v).min();
-        let stride: usize = self.strides.iter().sum();
         let rate = u64::from(self.table.modes[mode].rate);
         for d in 1..=room.unwrap_or(0) {
-            let to = point + d as usize * stride;
-            if self.holds[mode * self.points + to] {
+            let to = point + d as usize * self.tick();
+            if self.is_allowed(mode, to) {
                 hand_on(to, u64::from(d) * rate);
             }
         }

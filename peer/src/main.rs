@@ -1,11 +1,12 @@
 //! Cross-checks the proved planner against two independent ones, and measures all three; and the proved
-//! writer of tables against an independent one.
+//! timetables and the proved writer of tables against independent ones.
 
 mod bench;
 mod blocks;
 mod c_form;
 mod call;
 mod charge;
+mod closed;
 mod dijkstra;
 mod draft;
 mod drawn_form;
@@ -16,15 +17,21 @@ mod generate;
 mod grid;
 mod json;
 mod lend;
+mod lent;
+mod long;
 mod measure;
 mod memory;
 mod paper;
 mod proved;
 mod random;
 mod record;
+mod replay;
 mod runs;
+mod search;
 mod shape;
 mod table;
+mod timetable;
+mod timetables;
 mod vectors;
 mod worst;
 mod writer;
@@ -33,10 +40,11 @@ mod writing;
 use std::process::ExitCode;
 
 const USAGE: &str = "usage:
-  peer fuzz SEED COUNT   compare the planners on COUNT tables drawn from SEED, and the writers on these
-                         and on as many forms
+  peer fuzz SEED COUNT   compare the planners on COUNT tables drawn from SEED, the timetables on these,
+                         mostly without < and >, and the writers on these and on as many forms
   peer vectors FILE..    run the calls of the files, and compare their answers with those that they tell
-  peer bench             measure the planners on the tables of the folder tables
+  peer bench             measure the planners on the tables of the folder tables, and the timetables
+                         on these without < and >
   peer worst SEED SECONDS [TIMERS]
                          breed tables that are costly for the proved planner, for so many seconds of
                          processor time, and print the costliest as a file of that folder; this needs

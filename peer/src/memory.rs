@@ -1,8 +1,9 @@
-//! The memory that a planning is lent, held to what must be in it afterwards.
+//! The memory that a planning or timetable is lent, held to what must be in it afterwards.
 
 use crate::dijkstra::Answer;
 use crate::proved;
 use crate::random::Random;
+use crate::search::Search;
 
 /// How many words are 0 after this answer, as document 01 has it, for a table with so many nodes, if
 /// it follows the layout.
@@ -14,11 +15,13 @@ pub fn zeroed(answer: &Answer, nodes: Option<u64>) -> usize {
 /// which no call may change.
 #[derive(Clone, PartialEq)]
 pub struct Memory {
+    search: Search,
     table: Vec<u8>,
     words: Vec<u32>,
     route: Vec<u8>,
     charge: [u32; 3],
-    steps: [usize; 3],
+    /// The number of steps or pairs.
+    count: [usize; 3],
     /// What the call returned.
     returned: u8,
 }
@@ -29,26 +32,43 @@ const GUARD_WORDS: usize = 16;
 pub const NOT_CALLED: u8 = 254;
 
 impl Memory {
-    pub fn new(table: &[u8], words: usize, route_bytes: usize, random: &mut Random) -> Memory {
+    pub fn new(
+        search: Search,
+        table: &[u8],
+        words: usize,
+        route_bytes: usize,
+        random: &mut Random,
+    ) -> Memory {
         let [low, high] = [(); 2].map(|()| random.bytes(GUARD_BYTES));
         Memory {
+            search,
             table: [&low, table, &high].concat(),
             words: (0..words + 2 * GUARD_WORDS).map(|_| random.draw() as u32).collect(),
             route: random.bytes(route_bytes + 2 * GUARD_BYTES),
             charge: [(); 3].map(|()| random.draw() as u32),
-            steps: [(); 3].map(|()| random.draw() as usize),
+            count: [(); 3].map(|()| random.draw() as usize),
             returned: NOT_CALLED,
         }
     }
 
-    /// After a call of the proved planner.
-    pub fn planned(mut self) -> Memory {
-        self.returned = proved::plan(
+    /// The same with every bit of what a call may write the other way round: nothing that it writes can
+    /// look untouched in both.
+    pub fn inverted(mut self) -> Memory {
+        inside(&mut self.words, GUARD_WORDS).iter_mut().for_each(|word| *word = !*word);
+        inside(&mut self.route, GUARD_BYTES).iter_mut().for_each(|byte| *byte = !*byte);
+        self.charge[1] = !self.charge[1];
+        self.count[1] = !self.count[1];
+        self
+    }
+
+    /// After the proved call.
+    pub fn called(mut self) -> Memory {
+        self.returned = self.search.proved(
             inside(&mut self.table, GUARD_BYTES),
             inside(&mut self.words, GUARD_WORDS),
             inside(&mut self.route, GUARD_BYTES),
             &mut self.charge[1],
-            &mut self.steps[1],
+            &mut self.count[1],
         );
         self
     }
@@ -62,7 +82,7 @@ impl Memory {
             Answer::Route { charge, steps } => {
                 inside(&mut self.route, GUARD_BYTES)[..steps.len()].copy_from_slice(steps);
                 self.charge[1] = *charge;
-                self.steps[1] = steps.len();
+                self.count[1] = self.search.count(steps);
                 proved::ROUTE
             }
         };
@@ -71,8 +91,9 @@ impl Memory {
 
     /// Tells where another is not the same.
     pub fn unlike(&self, got: &Memory) -> String {
-        let numbers = |memory: &Memory| {
-            format!("{}, charge {:?}, steps {:?}", memory.returned, memory.charge, memory.steps)
+        let [_, counted] = self.search.names();
+        let numbers = |Memory { returned, charge, count, .. }: &Memory| {
+            format!("{returned}, charge {charge:?}, {counted} {count:?}")
         };
         let mut text = format!("must return {}\ngot         {}", numbers(self), numbers(got));
         text += &first_unlike("table byte", GUARD_BYTES, &self.table, &got.table);

@@ -2,11 +2,11 @@
 
 use crate::c_form::Form;
 
-/// What the calls return for a route, and for what else was asked for. Refusals return their number,
-/// 1 to 11.
+/// What the calls return for a route or timetable, and for what else was asked for. Refusals return
+/// their number, 1 to 12.
 pub const ROUTE: u8 = 0;
 pub const OK: u8 = 0;
-/// What planning returns if no chain comes into the goal.
+/// What planning and the timetable return if no run comes into the goal.
 pub const NO_ROUTE: u8 = 255;
 
 extern "C" {
@@ -19,6 +19,17 @@ extern "C" {
         route_len: usize,
         charge: *mut u32,
         steps: *mut usize,
+    ) -> u8;
+
+    fn planner_timetable(
+        table: *const u8,
+        table_len: usize,
+        words: *mut u32,
+        words_len: usize,
+        route: *mut u8,
+        route_len: usize,
+        charge: *mut u32,
+        pairs: *mut usize,
     ) -> u8;
 
     fn planner_lend(
@@ -61,6 +72,30 @@ pub fn plan(
             route.len(),
             charge,
             steps,
+        )
+    }
+}
+
+/// The timetable of the table with the words and route bytes lent. `charge` and `pairs` are written if
+/// the answer is `ROUTE`, and only then.
+pub fn timetable(
+    table: &[u8],
+    words: &mut [u32],
+    route: &mut [u8],
+    charge: &mut u32,
+    pairs: &mut usize,
+) -> u8 {
+    // Sound: as above.
+    unsafe {
+        planner_timetable(
+            table.as_ptr(),
+            table.len(),
+            words.as_mut_ptr(),
+            words.len(),
+            route.as_mut_ptr(),
+            route.len(),
+            charge,
+            pairs,
         )
     }
 }

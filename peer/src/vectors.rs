@@ -13,6 +13,7 @@ use crate::json::Json;
 use crate::lend::{self, Needs};
 use crate::memory::{zeroed, Memory};
 use crate::random::Random;
+use crate::search::Search;
 use crate::table::{node_count, read, read_form};
 use crate::writer;
 use crate::writing::{self, Written};
@@ -78,12 +79,14 @@ fn line(text: &str) -> Result<Line, String> {
                 return Err(format!("must be {needs:?}, is {got:?}"));
             }
         }
-        Must::Plan { table, words, route_bytes, planned } => {
-            let before = Memory::new(&table, words, route_bytes, &mut random);
-            let must = before.clone().after(&planned.answer, planned.zeroed);
-            let got = before.planned();
-            if got != must {
-                return Err(format!("must be {planned:?}\n{}", must.unlike(&got)));
+        Must::Search { search, table, words, route_bytes, searched } => {
+            let before = Memory::new(search, &table, words, route_bytes, &mut random);
+            for before in [before.clone(), before.inverted()] {
+                let must = before.clone().after(&searched.answer, searched.zeroed);
+                let got = before.called();
+                if got != must {
+                    return Err(format!("must be {searched:?}\n{}", must.unlike(&got)));
+                }
             }
         }
         Must::Write { form, capacity, written } => {
@@ -113,9 +116,9 @@ fn line(text: &str) -> Result<Line, String> {
     Ok(Line::Right)
 }
 
-/// What a planning leaves: its answer, and so many words 0.
+/// What a planning or timetable leaves: its answer, and so many words 0.
 #[derive(Debug, PartialEq)]
-struct Planned {
+struct Searched {
     answer: Answer,
     zeroed: usize,
 }
@@ -126,11 +129,12 @@ enum Must {
         table: Vec<u8>,
         needs: Needs,
     },
-    Plan {
+    Search {
+        search: Search,
         table: Vec<u8>,
         words: usize,
         route_bytes: usize,
-        planned: Planned,
+        searched: Searched,
     },
     Write {
         form: Form,
@@ -156,13 +160,15 @@ fn must(line: &Json) -> Result<Must, String> {
             let needs = told(line, needs_told, lend::of(&answer, nodes(&table)))?;
             Ok(Must::Lend { table, needs })
         }
-        "plan" => {
+        call @ ("plan" | "timetable") => {
+            let search = if call == "plan" { Search::Plan } else { Search::Timetable };
             let table = table(line)?;
             let (words, route_bytes) = (number(line, "words")?, number(line, "route")?);
-            let answer = dijkstra::plan(&table, words, route_bytes);
+            let answer = search.independent(&table, words, route_bytes);
             let zeroed = zeroed(&answer, nodes(&table));
-            let planned = told(line, plan_told, Planned { answer, zeroed })?;
-            Ok(Must::Plan { table, words, route_bytes, planned })
+            let searched =
+                told(line, |line| searched_told(search, line), Searched { answer, zeroed })?;
+            Ok(Must::Search { search, table, words, route_bytes, searched })
         }
         "write" => {
             let form = fields::form(line.field("fields")?)?;
@@ -195,7 +201,7 @@ fn nodes(table: &[u8]) -> Option<u64> {
 /// which some lines add for when later requests have changed the format.
 fn told<T: PartialEq + std::fmt::Debug>(
     line: &Json,
-    read: fn(&Json) -> Result<T, String>,
+    read: impl Fn(&Json) -> Result<T, String>,
     independent: T,
 ) -> Result<T, String> {
     let mut told = vec![read(line.field("expect")?)?];
@@ -219,21 +225,26 @@ fn needs_told(expect: &Json) -> Result<Needs, String> {
     }
 }
 
-fn plan_told(expect: &Json) -> Result<Planned, String> {
+fn searched_told(search: Search, expect: &Json) -> Result<Searched, String> {
+    let [found, counted] = search.names();
     let answer = match expect.text("answer")? {
-        "route" => {
+        "no route" => Answer::NoRoute,
+        "refused" => Answer::Refused(number(expect, "number")?),
+        answer if answer == found => {
             let charge = number(expect, "charge")?;
             let steps = bytes(expect.text("route")?)?;
-            if steps.len() != number(expect, "steps")? {
-                return Err(format!("the route has {} steps", steps.len()));
+            let count: usize = number(expect, counted)?;
+            if steps.len() != count * search.bytes_each() {
+                return Err(format!(
+                    "the {found} has {} bytes, not {count} {counted}",
+                    steps.len()
+                ));
             }
             Answer::Route { charge, steps }
         }
-        "no route" => Answer::NoRoute,
-        "refused" => Answer::Refused(number(expect, "number")?),
         other => return Err(format!("there is no answer {other}")),
     };
-    Ok(Planned { answer, zeroed: number(expect, "words_zeroed")? })
+    Ok(Searched { answer, zeroed: number(expect, "words_zeroed")? })
 }
 
 fn written_told(expect: &Json) -> Result<Written, String> {

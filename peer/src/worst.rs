@@ -3,7 +3,7 @@
 //! Hill climbing: a small herd of tables, of which one at a time is changed; what is costlier than
 //! the cheapest of the herd takes its place. A herd that grows no costlier is left for a new one.
 
-use crate::bench::{grouped, instructions_of};
+use crate::bench::{grouped, hexadecimal, instructions_of};
 use crate::blocks::blocks;
 use crate::call::{Call, Planner};
 use crate::draft::Draft;
@@ -50,7 +50,7 @@ fn weigh(draft: Draft) -> Option<Weighed> {
     let mut call = Call::new(Planner::Proved, &draft.bytes(), draft.nodes());
     let blocks = blocks(|| call.make());
     let steps = match call.outcome? {
-        Outcome::Charge(_) => Some(call.steps),
+        Outcome::Charge(_) => Some(call.count),
         _ => None,
     };
     Some(Weighed { draft, blocks, steps })
@@ -148,9 +148,10 @@ pub fn run(seed: u64, seconds: u32, timers: Option<u8>) -> ExitCode {
 /// What a table costs, in words, with valgrind's count if the ordinary build of peer is told.
 fn cost_told(worst: &Weighed) -> String {
     let line = worst.line();
-    let hex = hexadecimal(&worst.draft.bytes());
+    let bytes = worst.draft.bytes();
     let ordinary = std::env::var_os("ORDINARY_PEER");
-    let count = ordinary.and_then(|peer| instructions_of(Path::new(&peer), &hex, Planner::Proved));
+    let count =
+        ordinary.and_then(|peer| instructions_of(Path::new(&peer), &bytes, Planner::Proved));
     count.map_or(line.clone(), |count| format!("{} instructions, {line}", grouped(count)))
 }
 
@@ -162,11 +163,6 @@ fn file(worst: &Weighed, called: &str, cost: &str) -> String {
     format!(
         "# A costly table within the unit's limit, bred by `{called}`: {told}.\n# {cost}.\n{lines}\n"
     )
-}
-
-fn hexadecimal(bytes: &[u8]) -> String {
-    let bytes: Vec<String> = bytes.iter().map(|byte| format!("{byte:02x}")).collect();
-    bytes.join(" ")
 }
 
 #[cfg(test)]

@@ -1,8 +1,10 @@
 /*
  * Plans every table on standard input (16 bits of length, the lower byte first, then the bytes) with what the unit lends,
  * and prints what `plan` prints. Before that it asks how much to lend, and holds the two to each other. Afterwards it
- * reads the table into a form, writes that, and holds what is written to the table. Around every call it checks each rule
- * of planner.h on the memory. At the end standard error has the most stack that a call used.
+ * reads the table into a form, writes that, and holds what is written to the table. Then it makes every < and > of the
+ * table <= and >=, asks for the timetable, and holds that to planning and to the form. Around every call it checks each
+ * rule of planner.h on the memory. At the end standard error has what the latest timetable was, and the most stack that a
+ * call used.
  */
 #include "planner.h"
 #include <stdlib.h>
@@ -26,8 +28,9 @@ enum { FORM = GUARD, BETWEEN = FORM + sizeof memory.form, DESTINATION = BETWEEN 
 enum { ALL_WORDS = GUARD + WORDS + GUARD, ALL_BYTES = DESTINATION + PLANNER_LONGEST_TABLE + GUARD };
 static uint8_t route[GUARD + ROUTE + GUARD];
 static uint8_t table[GUARD + INPUT + GUARD];
+static uint8_t open_table[PLANNER_LONGEST_TABLE]; /* a table with < or >, while the one without is in its place */
 static uint32_t charge[3];
-static size_t steps[3], words_needed[3], route_needed[3], written[3];
+static size_t steps[3], words_needed[3], route_needed[3], written[3]; /* for a timetable, steps are pairs */
 
 static size_t most_stack;
 
@@ -69,7 +72,7 @@ static size_t words_of_table(void)
     return 2 * e;
 }
 
-enum which { PLAN, LEND, WRITE, READ };
+enum which { PLAN, TIMETABLE, LEND, WRITE, READ };
 
 /* The answer is read as the whole register, since a caller may rely on bits 8 to 31 being 0. The length of a destination
    comes as table_len. This is inlined, since a frame of its own would count as the call's. */
@@ -81,6 +84,7 @@ answer_of(enum which which, size_t table_len, size_t words_len, size_t route_len
     typedef uint32_t write_register(const struct planner_form *, uint8_t *, size_t, size_t *);
     typedef uint32_t read_register(const uint8_t *, size_t, struct planner_form *);
     plan_register *volatile plan = (plan_register *)(void (*)(void))planner_plan;
+    plan_register *volatile timetable = (plan_register *)(void (*)(void))planner_timetable;
     lend_register *volatile lend = (lend_register *)(void (*)(void))planner_lend;
     write_register *volatile to_table = (write_register *)(void (*)(void))planner_write;
     read_register *volatile to_form = (read_register *)(void (*)(void))planner_read;
@@ -89,6 +93,9 @@ answer_of(enum which which, size_t table_len, size_t words_len, size_t route_len
     case PLAN:
         return plan(table + GUARD, table_len, memory.words + GUARD, words_len,
                     route + GUARD, route_len, charge + 1, steps + 1);
+    case TIMETABLE:
+        return timetable(table + GUARD, table_len, memory.words + GUARD, words_len,
+                         route + GUARD, route_len, charge + 1, steps + 1);
     case LEND: return lend(table + GUARD, table_len, words_needed + 1, route_needed + 1);
     case WRITE: return to_table(&memory.form, memory.destination, table_len, written + 1);
     case READ: return to_form(table + GUARD, table_len, &memory.form);
@@ -174,6 +181,32 @@ static void spoil_reading(uint32_t *answer)
     }
 }
 
+static void spoil_timetable(uint32_t *answer)
+{
+    int good = *answer == PLANNER_TIMETABLE;
+    size_t length = good ? 2 * steps[1] : 0;
+
+    switch ((uintptr_t)put_in) {
+    case 36: memory.words[GUARD - 1]++; break;
+    case 37: memory.words[GUARD]++; break;
+    case 38: memory.words[GUARD + WORDS]++; break;
+    case 39: memory.words[GUARD] *= *answer != PLANNER_NOT_CLOSED; break;
+    case 40: route[GUARD - 1]++; break;
+    case 41: route[GUARD + length]++; break;
+    case 42: route[GUARD] += length > 0; break;
+    case 43: route[GUARD + length - 1] ^= length > 0; break;
+    case 44: table[GUARD]++; break;
+    case 45: charge[0]++; break;
+    case 46: charge[1] += good; break;
+    case 47: charge[1] += *answer == PLANNER_NO_ROUTE; break;
+    case 48: steps[1] -= good; break;
+    case 49: steps[1] += *answer == PLANNER_ROUTE_TOO_LONG; break;
+    case 50: *answer |= 256; break;
+    case 51: *answer -= *answer == PLANNER_NOT_CLOSED; break;
+    case 52: *answer = *answer == PLANNER_NO_ROUTE ? PLANNER_ROUTE_TOO_LONG : *answer; break;
+    }
+}
+
 /* How much to lend; and that it is 2E and E - 1 if the table is accepted. */
 static uint8_t lend(size_t table_len)
 {
@@ -199,7 +232,8 @@ static uint8_t lend(size_t table_len)
     return (uint8_t)answer;
 }
 
-static uint8_t plan(size_t table_len, size_t words_len, size_t route_len)
+/* Plans the table, or asks for its timetable. */
+static uint8_t search(enum which which, size_t table_len, size_t words_len, size_t route_len)
 {
     size_t i, zeros = 0, length = 0;
     uint32_t answer, sum = checksum(table, sizeof table);
@@ -213,14 +247,19 @@ static uint8_t plan(size_t table_len, size_t words_len, size_t route_len)
     for (i = 0; i < 3; i++) {
         charge[i] = steps[i] = word_before(i);
     }
-    answer = call(PLAN, table_len, words_len, route_len);
-    spoil(&answer);
+    answer = call(which, table_len, words_len, route_len);
+    if (which == PLAN) {
+        spoil(&answer);
+    } else {
+        spoil_timetable(&answer);
+    }
 
-    require(answer <= 10 || answer == PLANNER_NO_ROUTE, "answer: none of those that there are");
+    require(answer <= 10 || answer == PLANNER_NO_ROUTE || (which == TIMETABLE && answer == PLANNER_NOT_CLOSED),
+            "answer: none of those that there are");
     require(checksum(table, sizeof table) == sum, "table: altered");
     if (answer == PLANNER_ROUTE) {
-        length = steps[1];
-        require(length <= route_len, "steps: more than route bytes");
+        length = which == PLAN ? steps[1] : 2 * steps[1];
+        require(length <= route_len, "steps or pairs: more than route bytes");
     }
     if (answer == PLANNER_ROUTE || answer == PLANNER_NO_ROUTE || answer == PLANNER_ROUTE_TOO_LONG) {
         zeros = words_of_table();
@@ -232,13 +271,23 @@ static uint8_t plan(size_t table_len, size_t words_len, size_t route_len)
     }
     for (i = 0; i < sizeof route; i++) {
         int step = i >= GUARD && i < GUARD + length;
-        require(step || route[i] == byte_before(i), "route: touched beyond the steps");
+        require(step || route[i] == byte_before(i), "route: touched beyond the steps or pairs");
     }
     for (i = 0; i < 3; i++) {
         int given = i == 1 && answer == PLANNER_ROUTE;
-        require(given || (charge[i] == word_before(i) && steps[i] == word_before(i)), "charge or steps: touched");
+        require(given || (charge[i] == word_before(i) && steps[i] == word_before(i)), "charge, steps or pairs: touched");
     }
     return (uint8_t)answer;
+}
+
+static uint8_t plan(size_t table_len, size_t words_len, size_t route_len)
+{
+    return search(PLAN, table_len, words_len, route_len);
+}
+
+static uint8_t timetable(size_t table_len, size_t words_len, size_t route_len)
+{
+    return search(TIMETABLE, table_len, words_len, route_len);
 }
 
 /* Writes the table of the form into so many bytes. */
@@ -380,6 +429,148 @@ static void plan_what_is_written(size_t table_len, uint8_t planned, uint32_t giv
     }
 }
 
+/* Makes < and > of three conditions <= and >=, and says whether there was one. */
+static int close_conditions(struct planner_condition *condition)
+{
+    int open = 0;
+
+    for (size_t i = 0; i < PLANNER_MOST_TIMERS; i++) {
+        if (condition[i].code == PLANNER_LESS || condition[i].code == PLANNER_GREATER) {
+            condition[i].code = condition[i].code == PLANNER_LESS ? PLANNER_AT_MOST : PLANNER_AT_LEAST;
+            open = 1;
+        }
+    }
+    return open;
+}
+
+static int close_form(void)
+{
+    struct planner_form *form = &memory.form;
+    int open = 0;
+
+    for (size_t i = 0; i < form->modes; i++) {
+        open |= close_conditions(form->mode[i].first) | close_conditions(form->mode[i].further);
+    }
+    for (size_t i = 0; i < form->moves; i++) {
+        open |= close_conditions(form->move[i].first) | close_conditions(form->move[i].further);
+    }
+    return open;
+}
+
+/* Three conditions that are <=, = or >=. */
+static int hold(const struct planner_condition *condition, const uint32_t *value)
+{
+    for (size_t i = 0; i < PLANNER_MOST_TIMERS; i++) {
+        uint8_t code = condition[i].code;
+        if (((code == PLANNER_AT_MOST || code == PLANNER_EQUAL) && value[i] > condition[i].value) ||
+            ((code == PLANNER_AT_LEAST || code == PLANNER_EQUAL) && value[i] < condition[i].value)) {
+            return 0;
+        }
+    }
+    return 1;
+}
+
+static int may_be_in(const struct planner_mode *mode, const uint32_t *value)
+{
+    for (size_t i = 0; i < memory.form.timers; i++) {
+        if (value[i] > memory.form.ceiling[i]) {
+            return 0;
+        }
+    }
+    return hold(mode->first, value) && hold(mode->further, value);
+}
+
+/* Whether the pairs are a run of the form into its goal, with that charge. */
+static int is_run(void)
+{
+    const struct planner_form *form = &memory.form;
+    const uint8_t *pair = route + GUARD;
+    uint32_t value[PLANNER_MOST_TIMERS] = { 0 }, sum = 0;
+    uint8_t mode = 0;
+
+    for (size_t left = steps[1]; left > 0; left--, pair += 2) {
+        const struct planner_move *move = &form->move[pair[1]];
+        if (pair[1] >= form->moves || move->from != mode) {
+            return 0;
+        }
+        for (size_t i = 0; i < PLANNER_MOST_TIMERS; i++) {
+            value[i] += pair[0];
+        }
+        if (!may_be_in(&form->mode[mode], value) || !hold(move->first, value) || !hold(move->further, value)) {
+            return 0;
+        }
+        sum += (uint32_t)pair[0] * form->mode[mode].rate + move->price;
+        mode = move->to;
+        for (size_t i = 0; i < PLANNER_MOST_TIMERS; i++) {
+            value[i] *= !(move->resets >> i & 1);
+        }
+        if (!may_be_in(&form->mode[mode], value)) {
+            return 0;
+        }
+    }
+    return mode == form->goal && sum == charge[1];
+}
+
+/* A table with a timetable: just enough memory is enough, a byte more is left alone, and a word or a byte less is not
+   enough. */
+static void timetable_at_the_limits(size_t table_len)
+{
+    size_t need = words_of_table(), number = steps[1], length = 2 * number;
+    uint32_t least = charge[1];
+
+    for (size_t room = length; room <= length + 1 && room <= ROUTE; room++) {
+        require(timetable(table_len, need, room) == PLANNER_TIMETABLE && charge[1] == least && steps[1] == number,
+                "timetable: the same answer with just enough");
+    }
+    require(timetable(table_len, need - 1, length) == PLANNER_TOO_FEW_WORDS, "timetable: a word too few");
+    require(length == 0 || timetable(table_len, need, length - 1) == PLANNER_ROUTE_TOO_LONG, "timetable: a byte too few");
+}
+
+static struct {
+    uint8_t answer;
+    uint32_t charge;
+    size_t pairs;
+} latest;
+
+/* The timetable of a table without < and >, held to what planning gives. */
+static void timetable_as_planned(size_t table_len)
+{
+    uint8_t planned = plan(table_len, WORDS, ROUTE), answer;
+    uint32_t least = charge[1];
+
+    answer = timetable(table_len, WORDS, ROUTE);
+    latest.answer = answer;
+    latest.charge = charge[1];
+    latest.pairs = steps[1];
+    if (answer == PLANNER_TIMETABLE) {
+        require(planned == PLANNER_ROUTE_TOO_LONG || (planned == PLANNER_ROUTE && charge[1] == least),
+                "timetable: another charge than that of planning");
+        require(read_form(table_len) == PLANNER_OK && is_run(), "timetable: no run into the goal with that charge");
+        timetable_at_the_limits(table_len);
+    } else if (answer == PLANNER_ROUTE_TOO_LONG) {
+        require(planned == PLANNER_ROUTE || planned == PLANNER_ROUTE_TOO_LONG, "timetable: too long, and no route");
+    } else {
+        require(answer == planned, "timetable: another answer than that of planning");
+    }
+}
+
+/* That of the table. If it has < or > it is refused for that, before 8 and 9; and before that, the timetable of the table
+   which has <= and >= there. */
+static void timetable_of(size_t table_len)
+{
+    if (read_form(table_len) != PLANNER_OK || !close_form()) {
+        timetable_as_planned(table_len);
+        return;
+    }
+    memcpy(open_table, table + GUARD, table_len);
+    require(write_form(PLANNER_LONGEST_TABLE) == PLANNER_OK, "timetable: what was closed is refused");
+    memcpy(table + GUARD, memory.destination, written[1]);
+    timetable_as_planned(written[1]);
+    memcpy(table + GUARD, open_table, table_len);
+    require(timetable(table_len, 0, 0) == PLANNER_NOT_CLOSED && timetable(table_len, WORDS, ROUTE) == PLANNER_NOT_CLOSED,
+            "timetable: a condition < or > is not refused");
+}
+
 static char line[32 + 4 * ROUTE];
 static size_t line_len;
 
@@ -422,6 +613,25 @@ static void tell(uint8_t answer)
     }
     text("\n");
     flush(STDOUT_FILENO);
+}
+
+static void tell_latest_timetable(void)
+{
+    text("timetable ");
+    if (latest.answer == PLANNER_NO_ROUTE) {
+        text("no route");
+    } else if (latest.answer != PLANNER_TIMETABLE) {
+        text("refused ");
+        number(latest.answer);
+    } else {
+        text("charge ");
+        number(latest.charge);
+        text(", ");
+        number((uint32_t)latest.pairs);
+        text(latest.pairs == 1 ? " pair" : " pairs");
+    }
+    text("\n");
+    flush(STDERR_FILENO);
 }
 
 /* The unit's memory is refused for the reason that `lend` gives, or if it is less than `lend` says. */
@@ -478,8 +688,10 @@ int main(void)
         if (answer == PLANNER_ROUTE) {
             plan_at_the_limits(n);
         }
+        timetable_of(n);
         plan_what_is_written(n, answer, given);
     }
+    tell_latest_timetable();
     text("stack ");
     number((uint32_t)most_stack);
     text("\n");

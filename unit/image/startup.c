@@ -5,7 +5,7 @@
 #include <unistd.h>
 
 extern uint32_t __data_start[], __data_end[], __data_load[], __bss_start[], __bss_end[], __ram_end[];
-int main(void);
+int main(int, char **);
 void initialise_monitor_handles(void);
 void reset(void);
 
@@ -50,5 +50,5 @@ void reset(void)
     }
     limit_memory();
     initialise_monitor_handles();
-    exit(main());
+    exit(main(0, 0)); /* no arguments */
 }

@@ -2,3 +2,4 @@
 pub mod Steps
 pub mod OneCell
 pub mod Given
+pub mod Lent

@@ -10,6 +10,7 @@ mod readings;
 mod resets;
 mod scripts;
 mod searches;
+mod timetables;
 mod tokens;
 mod writes;
 
@@ -66,6 +67,8 @@ const RESET: usize = 0x7265_7365_7400_0000;
 
 const WRITE: usize = 0x7772_6974_6500_0000;
 
+const TIMETABLE: usize = 0x7461_626c_6500_0000;
+
 const TITLE: usize = 0x3d00_0000;
 
 const COMMENT: usize = 0x2300_0000;
@@ -75,6 +78,7 @@ const COMMENT: usize = 0x2300_0000;
 fn called(name: usize, line: &[u8], numbers: &[usize; TOKENS], bytes: &[u8]) {
     match name {
         PLAN => plans::plan(numbers, bytes),
+        TIMETABLE => timetables::timetable(numbers, bytes),
         LEND => lends::lend(bytes),
         WRITE => writes::write(numbers, bytes),
         REGION => scripts::region(numbers),

@@ -9,7 +9,7 @@ use route::Answer;
 
 const WORDS: usize = 129600;
 
-const ROUTE: usize = 256;
+pub const ROUTE: usize = 256;
 
 // Plans the bytes with the first words and route bytes lent; one more than there are counts from 0 again. Prints the answer, how many words are 0
 // then, how many behind them are still 7, and how many route bytes behind the steps are still 9.
@@ -24,13 +24,13 @@ pub fn plan(numbers: &[usize; TOKENS], bytes: &[u8]) {
 }
 
 // The words before a call. Of so many, only the length is told, so that no proof looks into them.
-fn sevens() -> [u32; WORDS]
+pub fn sevens() -> [u32; WORDS]
     ensures { λ r. ⌜ 129600 ≡ length r ⌝ }
 {
     [7u32; WORDS]
 }
 
-fn told(words: &[u32; WORDS], route: &[u8; ROUTE], steps: usize) {
+pub fn told(words: &[u32; WORDS], route: &[u8; ROUTE], steps: usize) {
     let zeros = past(words, 0, 0);
     let sevens = past(words, zeros, 7);
     let nines = past_bytes(route, steps, 9);
@@ -53,7 +53,7 @@ fn show(answer: Answer, route: &[u8; ROUTE]) {
 }
 
 // The steps of a route, of which there are never more than route bytes, and the end of their line.
-fn listed(route: &[u8; ROUTE], n: usize) {
+pub fn listed(route: &[u8; ROUTE], n: usize) {
     for i in 0..n % 257 {
         print::step(route[i]);
     }

@@ -9,6 +9,8 @@ use Rattle.route.specs.declared.Answer.{Answer}
 use Rattle.route.specs.declared.Answer.the-variants.{Refused, NoRoute, Route}
 use Rattle.route.specs.declared.Needs.{Needs}
 use Rattle.route.specs.declared.Needs.the-variants.{Refused as Needs·Refused, Memory}
+use Rattle.timetable.specs.declared.Answer.{Answer as Timetabled}
+use Rattle.timetable.specs.declared.Answer.the-variants.{Refused as Timetabled·Refused, NoRoute as Timetabled·NoRoute, Timetable}
 use Rattle.writer.specs.declared.Written.{Written}
 use Rattle.writer.specs.declared.Written.the-variants.{Bytes, Refused as Written·Refused}
 use Rattle.reader.specs.declared.Verdict.{Verdict}
@@ -18,6 +20,11 @@ use Rattle.reader.specs.declared.Verdict.the-variants.{Accepted, Refused as Ver
 -- refusal of that number.
 unfoldable pub decoded : (number charge steps : ℕ) → Answer
 decoded number charge steps = cond (eqb number 0) (Route charge steps) (cond (eqb number 255) NoRoute (Refused number))
+
+-- 0 is a timetable with its charge and its number of pairs, 255 no route, and any other number the refusal of that number.
+unfoldable pub decodedTimetable : (number charge pairs : ℕ) → Timetabled
+decodedTimetable number charge pairs =
+    cond (eqb number 0) (Timetable charge pairs) (cond (eqb number 255) Timetabled·NoRoute (Timetabled·Refused number))
 
 -- How much to lend: 0 is memory that is enough, with its words and its route bytes, and any other number the refusal of that number.
 unfoldable pub decodedNeeds : (number words room : ℕ) → Needs

@@ -42,6 +42,35 @@ fn a_planning_is_held_to_the_call() {
 }
 
 #[test]
+fn a_timetable_is_held_to_the_call() {
+    let timetable_line = |last: &str, route_bytes: u32, expect: &str| {
+        let table = format!("{}{last}", &T[..36]);
+        let lent = format!(r#""words":60,"route":{route_bytes}"#);
+        line(&format!(r#"{{"call":"timetable","table":"{table}",{lent},"expect":{{{expect}}}}}"#))
+    };
+    let found = |answer: &str, charge: u32, pairs: u32, bytes: &str| {
+        let told = format!(r#""answer":"{answer}","charge":{charge},"pairs":{pairs}"#);
+        timetable_line("41", 5, &format!(r#"{told},"route":"{bytes}","words_zeroed":54"#))
+    };
+    assert_eq!(found("timetable", 7, 2, "00000101"), Ok(Line::Right));
+    assert!(found("timetable", 8, 2, "00000101").is_err());
+    assert!(found("timetable", 7, 4, "00000101").is_err());
+    assert!(found("timetable", 7, 2, "0000010101").is_err());
+    assert!(found("timetable", 7, 2, "01000001").is_err());
+    assert!(found("route", 7, 2, "00000101").is_err());
+    let refused = |last: &str, number: u32, zeroed: u32| {
+        let told = format!(r#""answer":"refused","number":{number},"words_zeroed":{zeroed}"#);
+        timetable_line(last, 3, &told)
+    };
+    assert_eq!(refused("41", 10, 54), Ok(Line::Right));
+    assert_eq!(refused("51", 12, 0), Ok(Line::Right));
+    assert!(refused("51", 12, 54).is_err());
+    let none = r#""answer":"no route","words_zeroed":54"#;
+    assert_eq!(timetable_line("43", 3, none), Ok(Line::Right));
+    assert!(timetable_line("41", 4, none).is_err());
+}
+
+#[test]
 fn a_writing_is_held_to_the_call() {
     let write_line = |mode: &str, capacity: u32, expect: &str, more: &str| {
         let counts = r#""m":1,"n":1,"e":0,"goal":0,"ceilings":[1,0,0]"#;
@@ -95,7 +124,7 @@ fn the_independent_planner_decides_between_two_answers() {
 fn the_independent_planner_is_held_to_every_line() {
     let folder = std::fs::read_dir(concat!(env!("CARGO_MANIFEST_DIR"), "/vectors")).unwrap();
     let paths = folder.map(|entry| entry.unwrap().path());
-    let mut lines = 0;
+    let (mut lines, mut timetables) = (0, 0);
     for path in paths.filter(|path| path.extension().is_some_and(|name| name == "jsonl")) {
         for text in std::fs::read_to_string(path).unwrap().lines() {
             let line = Json::read(text).unwrap();
@@ -108,9 +137,15 @@ fn the_independent_planner_is_held_to_every_line() {
                 let charge = least_charge(&read(&bytes).unwrap(), u64::MAX);
                 assert_eq!(charge, outcome_of(&answer), "{text}");
             }
+            // So do timetables, wherever there may be one.
+            let timetable = Search::Timetable.independent(&bytes, usize::MAX, usize::MAX);
+            if timetable.is_searched() {
+                assert_eq!(outcome_of(&timetable), outcome_of(&answer), "{text}");
+                timetables += 1;
+            }
         }
     }
-    assert!(lines > 0);
+    assert!(lines > 1_500 && timetables > 300, "{lines} {timetables}");
 }
 
 #[test]

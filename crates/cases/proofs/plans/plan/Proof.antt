@@ -1,21 +1,13 @@
 -- `cases::plans::plan` meets its contract. The words and the route bytes lent are the first of those held.
 -- Assumes nothing.
 use mathlib.Core.Path.{sym}
-use Prim.Native.Nat.{ℕ, _%_, _≤_}
-use native.Mathlib.Nat.{mod-lt}
+use Prim.Native.Nat.{ℕ, _%_}
 use native.Mathlib.Omega.{arith}
-use lib.Dec.{lit<}
-use lib.ListN.{length, getD, replicate, length-replicate}
+use lib.ListN.{getD, replicate}
 use lib.Seq.{length-take-le}
+use Rattle.cases.proofs.Lent.{lent-few, room-few}
 use Rattle.cases.proofs.plans.plan.Statement.{statement}
 use Rattle.cases.proofs.plans.plan.Tie as tie
-
--- So many words and route bytes are held.
-lent-few : (lent : ℕ) → lent % 129601 ≤ 129600
-lent-few lent = omega (arith, mod-lt lent {m = 129601} (lit< tt))
-
-room-few : (room : ℕ) → room % 257 ≤ length (replicate {A = ℕ} 256 9)
-room-few room = omega (arith, length-replicate {A = ℕ} 256 9, mod-lt room {m = 257} (lit< tt))
 
 sevens-requires : tie.Need-sevens-requires
 sevens-requires c κs = tt

@@ -1,4 +1,6 @@
 // What the methods of a region do to its arrays. Loops over the timers that are there go over three, and leave off at the last: three turns unroll.
+#![tactic(auto)]
+
 ghost use Rattle.std.specs.Prelude.{◌≡◌, cond, ◌++◌, ◌∷◌, [], map, ℕ, suc, ◌+◌, ◌<◌, ◌≤◌, ◌^◌, min, eqb, get_or, take, drop};
 ghost use Rattle.semantics.specs.Region.{count, risen, merge};
 ghost use Rattle.semantics.specs.Regions.Renumber.{wrapped, lowered};

@@ -1,4 +1,6 @@
 // Runs the script on standard input, a case to a line, and prints what comes out. The script's first lines say how a case is written.
+#![tactic(auto)]
+
 mod cells;
 mod chains;
 mod lends;

@@ -1,4 +1,6 @@
 // Whether a table has no condition < or >.
+#![tactic(auto)]
+
 ghost use Rattle.std.specs.Prelude.{◌≡◌, ◌∷◌, [], ℕ, ◌+◌, ◌*◌, ◌<◌, ◌≤◌, length, take, drop};
 ghost use Rattle.semantics.specs.Closed.{all_closed, closed_table};
 ghost use Rattle.table.specs.Meaning.{conditions_from};

@@ -1,4 +1,6 @@
 // The fields of a table as a configuration page holds them: a form of bytes at fixed offsets, which is filled from a table's bytes.
+#![tactic(auto)]
+
 ghost use Rattle.std.specs.Prelude.{◌≡◌, ◌+◌, ◌≤◌, drop};
 ghost use Rattle.form.specs.Form.{place_from, six_places, condition_byte};
 ghost use Rattle.form.specs.Filled.{outcome, filled};

@@ -1,4 +1,6 @@
 // Layer 3: the search for a timetable, over the states of a table in whole minutes.
+#![tactic(auto)]
+
 ghost use Rattle.minutes.specs.Finding.{FindReady, FoundGoal, SearchReady, SearchDone};
 
 mod edges;

@@ -1,4 +1,6 @@
 // Layer 3: the goal's own cost, read off the words of a search.
+#![tactic(auto)]
+
 ghost use Rattle.near.specs.Near.{BestRoom, IsBest};
 
 // An unreached node has this in both of its words.

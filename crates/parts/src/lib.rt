@@ -1,5 +1,7 @@
 // Single bytes of a table as they are written: where the conditions of a record stand, the bit map that says which of its fields are there, and one
 // function for each kind of byte, which puts it behind those that are there.
+#![tactic(auto)]
+
 ghost use Rattle.std.specs.Prelude.{◌≡◌, [], ◌∷◌, ◌++◌, ◌≤◌, ◌<◌, length};
 ghost use Rattle.reader.specs.Format.{between};
 ghost use Rattle.parts.specs.Part.{checked, unless_zero};

@@ -1,4 +1,6 @@
 // The planner for C and Rust: the calls of `route`, `timetable`, `writer` and `form` with their answers in plain numbers. include/planner.h is the page for their callers.
+#![tactic(auto)]
+
 ghost use Rattle.std.specs.Prelude.{◌≡◌, length};
 ghost use Rattle.route.specs.Plan.{outcome, planned};
 ghost use Rattle.route.specs.Promise.{KeepsDemand};

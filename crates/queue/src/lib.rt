@@ -1,6 +1,8 @@
 // The priority queue of a search in Dijkstra's order: a tournament of the nodes that are pending, kept in the spare halves of its words.
 // Node v has its charge at word 2v and, in word 2v + 1, its steps in the low half; the high half of word 2x + 1 is slot x of the tournament.
 // Nodes and places are counted in 32 bits here: the unit's core halves and compares no more at once.
+#![tactic(auto)]
+
 ghost use Rattle.std.specs.Prelude.{◌≡◌, suc, ◌+◌, ◌*◌, ◌%◌, ◌≤◌, ◌<◌, length};
 ghost use Rattle.semantics.specs.Graph.Path.{charge_at, steps_at};
 ghost use Rattle.queue.specs.Tournament.{none, winner};

@@ -1,4 +1,6 @@
 // Layer 1: from the bytes of a table to its fields at fixed offsets, or to the number of a refusal.
+#![tactic(auto)]
+
 ghost use Rattle.std.specs.Prelude.{◌≡◌, replicate};
 ghost use Rattle.reader.specs.Read.{read};
 ghost use Rattle.reader.specs.Reading.{Reading};

@@ -1,4 +1,6 @@
 // Layer 2: priced regions of one to three timers, by value, and the corners of a cell by their numbers.
+#![tactic(auto)]
+
 ghost use Rattle.std.specs.Prelude.{◌≡◌, true, false, ◌∷◌, [], ◌<◌, ◌≤◌, take};
 ghost use Rattle.semantics.specs.Region.{top, no_zero, alone, start, leave, arrive, delay, linger, reset, reset_all, charge, meets, within};
 ghost use Rattle.semantics.specs.Regions.Windows.{half};

@@ -1,4 +1,6 @@
 // The text that `plan` prints.
+#![tactic(auto)]
+
 ghost use Rattle.std.specs.Prelude.{ℕ, ◌+◌, ◌≤◌, ◌≡◌, List, ◌++◌, [], length, take};
 ghost use Rattle.io.specs.Counts.{IsPrefixLen};
 ghost use Rattle.route.specs.declared.Answer.TheVariants.{Refused, Route};

@@ -1,4 +1,6 @@
 // Layer 4: the call that plans a table, and the one that says how much to lend for it.
+#![tactic(auto)]
+
 ghost use Rattle.std.specs.Prelude.{◌≡◌, length};
 ghost use Rattle.table.specs.Held.{automaton_of, IsTable};
 ghost use Rattle.route.specs.Plan.{outcome, planned_table, planned};

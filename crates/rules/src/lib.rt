@@ -1,5 +1,7 @@
 // What a search looks at instead of a table's conditions: for each mode and move the window of each timer in half minutes, and the moves of each
 // mode one after another.
+#![tactic(auto)]
+
 ghost use Rattle.std.specs.Prelude.{◌≡◌, true, ◌&&◌, ◌↔◌, ◌<◌, leb, ltb, length};
 ghost use Rattle.table.specs.Held.{IsTable};
 ghost use Rattle.rules.specs.Rules.{window_of, low_at, high_at, InRow, first_of, after_of, IsRules};

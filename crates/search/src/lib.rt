@@ -1,4 +1,6 @@
 // Layer 3: the search for the least charge into a goal mode.
+#![tactic(auto)]
+
 ghost use Rattle.std.specs.Prelude.{◌≡◌, ◌<◌, length};
 ghost use Rattle.table.specs.Held.{automaton_of, IsTable};
 ghost use Rattle.rules.specs.Rules.{IsRules};

@@ -1,1 +1,2 @@
 // Definitions and theorems about priced timed automata. They stand in specs/; there is no code.
+#![tactic(auto)]

@@ -1,5 +1,7 @@
 // Layer 3: how the nodes of a table are numbered, and where chains begin; the moves that are not passed over, and where they lead. The search and the
 // steps of a walk use them.
+#![tactic(auto)]
+
 ghost use Rattle.table.specs.Held.{IsTable};
 ghost use Rattle.space.specs.Space.{IsSpace, StartReady, IsStart};
 

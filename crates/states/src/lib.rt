@@ -1,5 +1,7 @@
 // The states of a table in whole minutes: a mode, and a value for each timer up to its ceiling. They are the nodes of the search for a timetable. The
 // arithmetic is in 32 bits.
+#![tactic(auto)]
+
 ghost use Rattle.std.specs.Prelude.{◌≡◌, cond, map, ℕ, ◌+◌, ◌*◌, ◌<◌, ◌≤◌, get_or};
 ghost use Rattle.table.specs.Held.{IsTable};
 ghost use Rattle.table.specs.Meaning.{stands};

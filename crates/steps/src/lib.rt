@@ -1,4 +1,6 @@
 // Layer 3, beside the search: the steps of a walk along what it found.
+#![tactic(auto)]
+
 ghost use Rattle.std.specs.Prelude.{◌≡◌, true, cond, ◌↔◌, ◌<◌, ltb};
 ghost use Rattle.rules.specs.Rules.{IsRules};
 ghost use Rattle.regions.specs.Held.{view};

@@ -1,4 +1,6 @@
 // Layer 1: a table as bytes at fixed offsets, and what is read from it.
+#![tactic(auto)]
+
 ghost use Rattle.std.specs.Prelude.{◌≡◌, ◌+◌, ◌*◌, ◌<◌, ◌≤◌, ◌^◌, length, get_or};
 ghost use Rattle.semantics.specs.Automaton.{timers, mode_at, move_at};
 ghost use Rattle.table.specs.Fields.{most_timers};

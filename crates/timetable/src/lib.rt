@@ -1,4 +1,6 @@
 // Layer 4: the call that gives the timetable of a table.
+#![tactic(auto)]
+
 ghost use Rattle.std.specs.Prelude.{◌≡◌};
 ghost use Rattle.table.specs.Held.{automaton_of, IsTable};
 ghost use Rattle.timetable.specs.Timetabled.{outcome, timetabled_table, timetabled};

@@ -2,6 +2,8 @@
 // The file `stdin` has the 300 tables of the base's shared vectors, the 300 of those with high bytes, and seven at the limits: one that needs 6,000 words
 // and one that needs the next more, 6,006; a route of 256 steps and one of 257; the longest table, whose 16 modes need more words than are lent, and the
 // same with a byte left over; and one whose charge is 140 times 65,535.
+#![tactic(auto)]
+
 use libc::{STDIN_FILENO, STDOUT_FILENO};
 use report::TEXT;
 

@@ -1,4 +1,6 @@
 // Layer 1: from the fields of a table, in a form, to its bytes, or to the number of a refusal.
+#![tactic(auto)]
+
 ghost use Rattle.std.specs.Prelude.{◌≡◌, ◌++◌, ◌≤◌, length, take, drop};
 ghost use Rattle.writer.specs.Written.{outcome, written, Lays};
 

@@ -76,7 +76,9 @@ module _ (r : PricedRegion) (w : WellFormed r) where
 
   -- The corners of the weak order are the region's.
   pub open-corners : count 0 r.group ≡ 0 → open_corners (open_order r) ≡ region_corners r.group (length r.prices)
-  open-corners z = rw (map-suc-pred r.group z, prices-top r w.priced) refl
+  open-corners z =
+      ap (λ (g : List ℕ). region_corners g (suc (top r))) (map-suc-pred r.group z)
+      ∙ ap (region_corners r.group) (sym (prices-top r w.priced))
 
   -- Every corner of a region is in the list of corners.
   pub corner-listed : (j : ℕ) → j < length r.prices → Memᴰ (corner_of r j) (corners (length r.whole))

@@ -58,6 +58,7 @@ mem-place {A} (b ∷ l) a m = go (mem-place l a) (Memᴰ.cases_cons m)
 
 module _ {A B : Type 0} (f : A → List B) where
   pub mem-flat_map : {a : A} {b : B} {l : List A} → Memᴰ a l → Memᴰ b (f a) → Memᴰ b (flat_map f l)
+  mem-flat_map {l = []} d m = absurd (Memᴰ.not-nil d)
   mem-flat_map {b = b} {l = x ∷ xs} (Memᴰ.head e) m = Memᴰ.append_left (flat_map f xs) (subst (λ (c : A). Memᴰ b (f c)) e m)
   mem-flat_map {l = x ∷ xs} (Memᴰ.tail d) m = Memᴰ.append_right (f x) (mem-flat_map d m)
 

@@ -10,7 +10,7 @@ use rules::{GUARDS, RULES};
 use table::TABLE;
 
 // A mode and a priced region; and whether the step to it is allowed.
-#[derive(Drop)]
+#[derive(Clone, Copy)]
 pub struct Place {
     pub allowed: bool,
     pub mode: usize,

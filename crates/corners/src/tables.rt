@@ -10,7 +10,7 @@ ghost use Rattle.corners.specs.Tables.{most_cell_corners, entry_of, IsRow, first
 use table::MOST_TIMERS;
 
 // A corner of a cell: the groups of its region, 0 past the last timer, the index of its price, and the number of the highest group.
-#[derive(Drop)]
+#[derive(Clone, Copy)]
 pub struct CornerAt {
     pub group: [u8; MOST_TIMERS],
     pub index: usize,

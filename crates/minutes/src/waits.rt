@@ -6,7 +6,7 @@ use states::{State, States};
 use table::TABLE;
 
 // A state, what has been charged there, and the pairs with which its edges arrive.
-#[derive(Drop)]
+#[derive(Clone, Copy)]
 pub struct Source {
     pub at: State,
     pub charge: u32,

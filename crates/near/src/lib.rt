@@ -7,7 +7,7 @@ ghost use Rattle.near.specs.Near.{BestRoom, IsBest};
 pub const INFINITY: u32 = 0xFFFF_FFFF;
 
 // A charge and a number of steps.
-#[derive(Drop)]
+#[derive(Clone, Copy)]
 pub struct Cost {
     pub charge: u32,
     pub steps: u32,

@@ -68,7 +68,7 @@ pub fn bits(low: u8, six: [u8; CONDITIONS], last: u8) -> u8
 }
 
 // What the functions give: a refusal's number or 0, and the place of the next byte.
-#[derive(Drop)]
+#[derive(Clone, Copy)]
 pub struct Next {
     pub refusal: u8,
     pub next: usize,

@@ -7,7 +7,7 @@ use crate::{ABSENT_TIMER, NO_BYTE_LEFT};
 use table::names;
 
 // What the functions give: a refusal's number or 0, the place of the next byte, and what was read.
-#[derive(Drop)]
+#[derive(Clone, Copy)]
 pub struct Field {
     pub refusal: u8,
     pub next: usize,

@@ -34,7 +34,7 @@ pub const BYTES_LEFT_OVER: u8 = 6;
 pub const START_FAILS: u8 = 7;
 
 // The bytes are a table, or they are refused by document 01's number.
-#[derive(Drop)]
+#[derive(Clone, Copy)]
 pub enum Verdict {
     Accepted,
     Refused(u8),

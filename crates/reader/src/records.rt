@@ -14,7 +14,7 @@ use table::{
 };
 
 // What the functions give: a refusal's number or 0, and the place of the next byte.
-#[derive(Drop)]
+#[derive(Clone, Copy)]
 pub struct Next {
     pub refusal: u8,
     pub next: usize,

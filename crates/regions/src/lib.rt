@@ -16,7 +16,7 @@ pub mod nodes;
 
 // A region with its corner prices: of each timer its whole part and the number of its group, and the prices c0 to c(top). Of `whole` and
 // `group` the first `timers` entries are used, of `prices` the first `top + 1`; the others are 0. The struct has 24 bytes.
-#[derive(Drop)]
+#[derive(Clone, Copy)]
 pub struct Region {
     pub timers: u8,
     pub top: u8,

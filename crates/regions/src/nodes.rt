@@ -16,7 +16,7 @@ use table::TABLE;
 pub const MOST_NODES: usize = 65536;
 
 // The number of nodes, if there are not too many.
-#[derive(Drop)]
+#[derive(Clone, Copy)]
 pub enum Nodes {
     Count(usize),
     TooMany,
@@ -24,7 +24,7 @@ pub enum Nodes {
 
 // A node with the region of which it is a corner: its mode, the region with its corners' indices as prices, the number of the node that is the
 // region's corner 0, and the node's own index. The nodes of a region's corners have numbers in a row.
-#[derive(Drop)]
+#[derive(Clone, Copy)]
 pub struct NodeRegion {
     pub mode: usize,
     pub region: Region,
@@ -33,7 +33,7 @@ pub struct NodeRegion {
 }
 
 // A node: a mode, the whole parts of the timers, which are the cell, and a corner of the cell.
-#[derive(Drop)]
+#[derive(Clone, Copy)]
 struct NodeAt {
     mode: usize,
     whole: [u8; Region::MOST_TIMERS],

@@ -26,7 +26,7 @@ const STEP: usize = 4;
 pub const TEXT: usize = FRAME + STEP * ROUTE;
 
 // How many bytes were written; or the destination was too short.
-#[derive(Drop)]
+#[derive(Clone, Copy)]
 pub enum Written {
     Bytes(usize),
     TooShort,

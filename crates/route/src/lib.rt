@@ -20,7 +20,7 @@ use table::TABLE;
 const ROUTE_TOO_LONG: u8 = 10;
 
 // A refusal with document 01's number; no route; or a route with its charge and its number of steps.
-#[derive(Drop)]
+#[derive(Clone, Copy)]
 pub enum Answer {
     Refused(u8),
     NoRoute,
@@ -28,7 +28,7 @@ pub enum Answer {
 }
 
 // A refusal with document 01's number; or the words and the route bytes that are enough for planning.
-#[derive(Drop)]
+#[derive(Clone, Copy)]
 pub enum Needs {
     Refused(u8),
     Memory(usize, usize),

@@ -12,7 +12,7 @@ use space::{Space, moves};
 use table::TABLE;
 
 // A node whose edges are relaxed: the corner that it is, its charge, and the steps with which its edges arrive, one more than its own.
-#[derive(Drop)]
+#[derive(Clone, Copy)]
 pub struct Source {
     pub at: NodeRegion,
     pub charge: u32,

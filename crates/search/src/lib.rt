@@ -22,7 +22,7 @@ const TOO_MANY_NODES: u8 = 8;
 const TOO_FEW_WORDS: u8 = 9;
 
 // The number of nodes whose words a search uses; or, where it uses none, document 01's number.
-#[derive(Drop)]
+#[derive(Clone, Copy)]
 pub enum Searched {
     Nodes(usize),
     Refused(u8),

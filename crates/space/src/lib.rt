@@ -11,7 +11,7 @@ use regions::{Region, nodes};
 use table::TABLE;
 
 // The number of nodes, and of those of a mode; the number of timers, and their ceilings, 0 behind the last one.
-#[derive(Drop)]
+#[derive(Clone, Copy)]
 pub struct Space {
     pub nodes: usize,
     pub block: usize,

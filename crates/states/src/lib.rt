@@ -12,7 +12,7 @@ use corners::cells::{cell_at, cell_number, cells};
 use table::{MOST_TIMERS, TABLE};
 
 // How many states there are, and of a mode; the number of timers, and their ceilings, 0 behind the last one.
-#[derive(Drop)]
+#[derive(Clone, Copy)]
 pub struct States {
     pub count: usize,
     pub cells: usize,
@@ -21,7 +21,7 @@ pub struct States {
 }
 
 // A state: its mode, and the values of the timers in minutes, 0 behind the last one.
-#[derive(Drop)]
+#[derive(Clone, Copy)]
 pub struct State {
     pub mode: usize,
     pub values: [u8; MOST_TIMERS],

@@ -18,7 +18,7 @@ use table::TABLE;
 
 // Where a walk stands: the node of the place's corner 0, a bit for each of its corners that is marked, how many steps led to it, and the byte from
 // which on steps are still to be tried.
-#[derive(Drop)]
+#[derive(Clone, Copy)]
 pub struct Stand {
     pub first: usize,
     pub set: u32,
@@ -27,7 +27,7 @@ pub struct Stand {
 }
 
 // The byte of a step, and of the place to which it leads the node of corner 0 and the marked corners.
-#[derive(Drop)]
+#[derive(Clone, Copy)]
 pub struct Next {
     pub byte: usize,
     pub first: usize,

@@ -22,7 +22,7 @@ const NOT_CLOSED: u8 = 12;
 const ROUTE_TOO_LONG: u8 = 10;
 
 // A refusal with the number of documents 01 and 02; no route; or a timetable with its charge and its number of pairs.
-#[derive(Drop)]
+#[derive(Clone, Copy)]
 pub enum Answer {
     Refused(u8),
     NoRoute,

@@ -18,7 +18,7 @@ const MINUTE: u32 = 64;
 const NO_PAIR: u32 = 0xFFFF;
 
 // Where the walk stands: a node, the number of pairs that led to it, and the first label that was not tried there.
-#[derive(Drop)]
+#[derive(Clone, Copy)]
 pub struct Stand {
     pub node: usize,
     pub depth: usize,
@@ -26,14 +26,14 @@ pub struct Stand {
 }
 
 // A move and the node to which it leads; no move is rules::NONE.
-#[derive(Drop)]
+#[derive(Clone, Copy)]
 pub struct Step {
     pub made: usize,
     pub node: usize,
 }
 
 // A pair and the node to which it leads.
-#[derive(Drop)]
+#[derive(Clone, Copy)]
 pub struct Next {
     pub label: u32,
     pub node: usize,

@@ -13,7 +13,7 @@ use reader::LONGEST;
 const TOO_SHORT: u8 = 11;
 
 // The number of bytes that were written; or a refusal with its number.
-#[derive(Drop)]
+#[derive(Clone, Copy)]
 pub enum Written {
     Bytes(usize),
     Refused(u8),

@@ -17,7 +17,7 @@ use Rattle.semantics.specs.Bounds.Entries.{raised, leave-group, Arrived, on, off
 
 -- The values v, in q-ths, are a point of the region r, where the timers of group i have the fraction f i.
 pub record Inside (q : ℕ) (v f : ℕ → ℕ) (r : PricedRegion) : Type 0 where
-  pub ground : f 0 ≡ 0
+  pub grounded : f 0 ≡ 0
   pub rising : (i j : ℕ) → i < j → j ≤ top r → f i < f j
   pub small : (i : ℕ) → i ≤ top r → f i < q
   pub value : (x : ℕ) → x < length r.whole → v x ≡ q * get_or r.whole x 0 + f (get_or r.group x 0)
@@ -25,7 +25,7 @@ pub record Inside (q : ℕ) (v f : ℕ → ℕ) (r : PricedRegion) : Type 0 wher
 -- Prices do not matter.
 pub inside-shape : (q : ℕ) (v f : ℕ → ℕ) (r s : PricedRegion) → SameShape r s → Inside q v f r → Inside q v f s
 inside-shape q v f r s e p = record {
-  ground = p.ground;
+  grounded = p.grounded;
   rising = λ i j h l. p.rising i j h (omega (arith, ap pred e.corners));
   small = λ i l. p.small i (omega (arith, ap pred e.corners));
   value = λ x h. rw (← e.whole, ← e.group) (p.value x (rw e.whole h));
@@ -53,7 +53,7 @@ module _ (r : PricedRegion) (w : WellFormed r) (q : ℕ) (v f : ℕ → ℕ) (p 
   inside-point = record {
     from_one = omega (arith, p.small 0 (omega arith));
     integer = λ x h. sym (integer x h);
-    at_zero = λ x h. (λ e. fraction x h ∙ ap f e ∙ p.ground, λ e. at-ground (get_or r.group x 0) (group-in x) (sym (fraction x h) ∙ e));
+    at_zero = λ x h. (λ e. fraction x h ∙ ap f e ∙ p.grounded, λ e. at-ground (get_or r.group x 0) (group-in x) (sym (fraction x h) ∙ e));
     same = λ x y h l e. fraction x h ∙ ap f e ∙ sym (fraction y l);
     rising = λ x y h l e. rw (fraction x h, fraction y l) (p.rising (get_or r.group x 0) (get_or r.group y 0) e (group-in y));
   }
@@ -82,7 +82,7 @@ module _ (r : PricedRegion) (w : WellFormed r) (q : ℕ) (v f : ℕ → ℕ) (p 
     pub inside-leave : (rate : ℕ) → 0 < d → f (top r) + d < q → Inside q v' (later (λ i. i) d f) (leave rate r)
     unfolding leave
     inside-leave rate pos short = record {
-      ground = refl;
+      grounded = refl;
       rising = λ i j h l. rising i j h (omega (arith, leave-top r w rate));
       small = λ i l. small i (omega (arith, leave-top r w rate));
       value = λ x h. value x h;
@@ -113,7 +113,7 @@ module _ (r : PricedRegion) (w : WellFormed r) (q : ℕ) (v f : ℕ → ℕ) (p 
       -- Waiting in a region with r0 empty, while no timer comes to a whole minute.
       pub inside-stay : f (top r) + d < q → Inside q v' (later suc d f) r
       inside-stay short = record {
-        ground = refl;
+        grounded = refl;
         rising = later-rising;
         small = small;
         value = λ x h. omega (arith, waited x, p.value x h, later-raised (get_or r.group x 0) (raised r w x h empty));
@@ -126,7 +126,7 @@ module _ (r : PricedRegion) (w : WellFormed r) (q : ℕ) (v f : ℕ → ℕ) (p 
       -- Waiting until the highest group comes to its whole minute.
       pub inside-arrive : f (top r) + d ≡ q → Inside q v' (later suc d f) (arrive r)
       inside-arrive due = record {
-        ground = refl;
+        grounded = refl;
         rising = λ i j h l. later-rising i j h (omega (arith, arrive-top r w));
         small = λ i l. small i (omega (arith, arrive-top r w));
         value = λ x h. value x (omega (arith, (arrive-timers r).whole)) (arrived r w x (omega (arith, (arrive-timers r).whole)));
@@ -146,7 +146,7 @@ module _ (r : PricedRegion) (w : WellFormed r) (q : ℕ) (v f : ℕ → ℕ) (p 
 -- Every well-formed region has a point: the group's number as the fraction.
 pub inside-own : (r : PricedRegion) → WellFormed r → Inside (suc (top r)) (point_of r) (λ i. i) r
 inside-own r w = record {
-  ground = refl;
+  grounded = refl;
   rising = λ i j h l. h;
   small = λ i l. omega arith;
   value = λ x h. refl;
@@ -156,7 +156,7 @@ inside-own r w = record {
 pub start-inside : (n q : ℕ) → 0 < q → Inside q (λ x. 0) (λ i. i) (start n)
 unfolding start
 start-inside n q h = record {
-  ground = refl;
+  grounded = refl;
   rising = λ i j h l. h;
   small = λ i l. omega (arith, start-prices n);
   value = λ x h. rw (replicate-zero n x) (omega arith);

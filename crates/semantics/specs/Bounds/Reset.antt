@@ -29,7 +29,7 @@ pub record Source (r : PricedRegion) (corner : ℕ → ℕ) (i c : ℕ) : Type 0
 pub record ResetTo (gone : ℕ → Bool) (r s : PricedRegion) (corner : ℕ → ℕ) : Type 0 where
   pub old : ℕ → ℕ
   pub timers : length s.whole ≡ length r.whole
-  pub ground : old 0 ≡ 0
+  pub grounded : old 0 ≡ 0
   pub rising : (i j : ℕ) → i < j → j ≤ top s → old i < old j
   pub bounded : (i : ℕ) → i ≤ top s → old i ≤ top r
   pub zero-whole : (x : ℕ) → x < length r.whole → gone x ≡ true → get_or s.whole x 0 ≡ 0
@@ -51,7 +51,7 @@ module _ (r : PricedRegion) (w : WellFormed r) (x : ℕ) (in-range : x < length 
   joined_to a = record {
     old = λ i. i;
     timers = length-set r.whole x 0;
-    ground = refl;
+    grounded = refl;
     rising = λ i j h l. h;
     bounded = λ i h. h;
     zero-whole = λ y h e. rw (eqb-true y x e) (get_or-set_same r.whole x 0 0 in-range);
@@ -142,7 +142,7 @@ module _ (r : PricedRegion) (w : WellFormed r) (x : ℕ) (in-range : x < length 
     alone-to = record {
       old = skip g;
       timers = length-set r.whole x 0;
-      ground = rw (lt-ltb 0 g gone-raised) refl;
+      grounded = rw (lt-ltb 0 g gone-raised) refl;
       rising = λ i j h l. skip-rising g i j h;
       bounded = λ i h. skip-bounded (top r) g gone-raised gone-bounded i (rw top-falls at h);
       zero-whole = λ y h e. rw (eqb-true y x e) (get_or-set_same r.whole x 0 0 in-range);

@@ -24,7 +24,7 @@ module _ (gone gone' : ℕ → Bool) (r s t : PricedRegion) (corner corner' : �
   both_to = record {
     old = λ i. a.old (b.old i);
     timers = b.timers ∙ a.timers;
-    ground = ap a.old b.ground ∙ a.ground;
+    grounded = ap a.old b.grounded ∙ a.grounded;
     rising = λ i j h l. a.rising (b.old i) (b.old j) (b.rising i j h l) (b.bounded j l);
     bounded = λ i h. a.bounded (b.old i) (b.bounded i h);
     zero-whole = λ x h e. zero-whole x h (gone x) refl (gone' x) refl e;
@@ -66,7 +66,7 @@ none-to : (r : PricedRegion) → ResetTo (λ x. false) r r (λ j. j)
 none-to r = record {
   old = λ i. i;
   timers = refl;
-  ground = refl;
+  grounded = refl;
   rising = λ i j h l. h;
   bounded = λ i h. h;
   zero-whole = λ x h e. absurd (true≢false (sym e));
@@ -98,12 +98,12 @@ pub inside-resets :
     (gone : ℕ → Bool) (r s : PricedRegion) (corner : ℕ → ℕ) (d : ResetTo gone r s corner) (q : ℕ) (v f v' : ℕ → ℕ)
     → ((x : ℕ) → v' x ≡ cond (gone x) 0 (v x)) → Inside q v f r → Inside q v' (λ i. f (d.old i)) s
 inside-resets gone r s corner d q v f v' e p = record {
-  ground = ap f d.ground ∙ p.ground;
+  grounded = ap f d.grounded ∙ p.grounded;
   rising = λ i j h l. p.rising (d.old i) (d.old j) (d.rising i j h l) (d.bounded j l);
   small = λ i h. p.small (d.old i) (d.bounded i h);
   value = λ x h. value x (omega (arith, d.timers)) (gone x) refl;
 }
   where
     value : (x : ℕ) → x < length r.whole → (b : Bool) → gone x ≡ b → v' x ≡ q * get_or s.whole x 0 + f (d.old (get_or s.group x 0))
-    value x h true b = rw (d.zero-whole x h b, d.zero-group x h b, d.ground, p.ground) (e x ∙ rw b (omega arith))
+    value x h true b = rw (d.zero-whole x h b, d.zero-group x h b, d.grounded, p.grounded) (e x ∙ rw b (omega arith))
     value x h false b = rw (d.same_whole x h b, d.old-group x h b) (e x ∙ rw b (p.value x h))

@@ -21,7 +21,7 @@ module _ (r : PricedRegion) (w : WellFormed r) (q : ℕ) (v f u : ℕ → ℕ) (
   even-short e = go (top r) refl
     where
       go : (k : ℕ) → top r ≡ k → f (top r) + 1 < 2 * q
-      go zero h = omega (arith, p.small 0 (omega arith), p.ground, ap f h)
+      go zero h = omega (arith, p.small 0 (omega arith), p.grounded, ap f h)
       go (suc k) h =
           let o = count-place (top r) r.group (top-full r w (omega arith)) in
           omega (arith, p.small (top r) (omega arith), e o.0, p.value o.0 (omega (arith, o.1, w.paired)), ap f o.2)
@@ -33,7 +33,7 @@ module _ (r : PricedRegion) (w : WellFormed r) (q : ℕ) (v f u : ℕ → ℕ) (
       full : 0 < count 0 r.group → ⊥
       full z =
           let o = count-place 0 r.group z in
-          omega (arith, p.ground, e o.0, p.value o.0 (omega (arith, o.1, w.paired)), ap f o.2)
+          omega (arith, p.grounded, e o.0, p.value o.0 (omega (arith, o.1, w.paired)), ap f o.2)
 
 -- A tick from the values u, at each of which the mode may be stayed in.
 module _ (a : Automaton) (ok : Proper a) (q l : ℕ) (pos : 0 < q) (u : ℕ → ℕ) (now : Stays a q l u) (next : Stays a q l (λ x. u x + 1)) where

@@ -57,7 +57,7 @@ turned h = record { gone = h.gone; at = h.at'; at' = h.at; ok = h.ok'; ok' = h.o
 module _ {r s t : PricedRegion} (h : Alike r s t) where
   -- A group of s other than r0 has a timer that was not reset, and what was its group in r is a group of t too.
   found : (i : ℕ) → i ≤ top s → (j : ℕ) × (j ≤ top t) × (h.to'.old j ≡ h.to.old i)
-  found zero l = (0, omega arith, h.to'.ground ∙ sym h.to.ground)
+  found zero l = (0, omega arith, h.to'.grounded ∙ sym h.to.grounded)
   found (suc i) l =
       let w = h.ok in
       let o = count-place (suc i) s.group (w.full (suc i) (omega arith) (omega (arith, prices-top s w.priced))) in

@@ -5,17 +5,10 @@ use native.Mathlib.Nat.{one-mul, mod-eq_of_lt, lt_of_le_of_lt}
 use borrow.Author.Rules.{rules}
 use lib.Dec.{lit<}
 use lib.Pow.{pow_mono}
-use Rattle.table.proofs.names.Statement.{statement}
-use Rattle.table.proofs.names.Tie as tie
+use Rattle.table.proofs.names.Goals as goal
 
-shl-result : tie.Need-overflow-shl-result
-shl-result c = search rules
-
-returns : tie.Need-returns
+pub returns : goal.returns
 returns c =
     let n = c.args.timers in
     let small : 1 * 2 ^ n < 2 ^ 8 = rw (one-mul (2 ^ n)) (lt_of_le_of_lt (pow_mono c.requires) (lit< tt)) in
     mod-eq_of_lt small ∙ one-mul (2 ^ n)
-
-pub names-spec : {M : Type 1} → statement M
-names-spec = tie.close (tie.spec shl-result returns)

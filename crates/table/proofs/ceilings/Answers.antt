@@ -1,0 +1,7 @@
+-- `table::ceilings` meets its contract. Assumes nothing.
+use borrow.Author.Rules.{rules}
+use Rattle.table.specs.Theorems.Access.{ceilings-held}
+use Rattle.table.proofs.ceilings.Goals as goal
+
+pub returns : goal.returns
+returns c = let s = c in ceilings-held s.args.table.now s.requires

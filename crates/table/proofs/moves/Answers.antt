@@ -1,0 +1,11 @@
+-- `table::moves` meets its contract. Assumes nothing.
+use Rattle.table.specs.Theorems.Access.{counts, move-count}
+use borrow.Author.Rules.{rules}
+use native.Mathlib.Omega.{arith}
+use Rattle.table.proofs.moves.Goals as goal
+
+pub overflow_cast-result : goal.overflow_cast-result
+overflow_cast-result c = omega (arith, counts c.args.table.now c.requires)
+
+pub returns : goal.returns
+returns c = move-count c.args.table.now c.requires

@@ -13,16 +13,14 @@ returns-then-node-eq-NONE c = record { ahead = λ e. absurd (true≢false (sym e
 
 pub key-requires : goal.key-requires
 key-requires c =
-    let s = c in
-    seat-words s.args.words.now s.args.node s.requires c.if-node-eq-NONE.false
+    seat-words c.args.words.now c.args.node c.requires c.if-node-eq-NONE.false
 
 pub returns : goal.returns
 returns c =
-    let s = c in
     let k = c.key.result in
-    let own = s.args.own in
-    let words = seat-words s.args.words.now s.args.node s.requires c.if-node-eq-NONE.false in
-    let known = c.shared_slice_known-1.given (2 * s.args.node) in
+    let own = c.args.own in
+    let words = seat-words c.args.words.now c.args.node c.requires c.if-node-eq-NONE.false in
+    let known = c.shared_slice_known-1.given (2 * c.args.node) in
     record {
       ahead = λ e. (c.if-node-eq-NONE.false, omega (arith, ltb-true k own e, c.key.ensures));
       behind =

@@ -20,19 +20,11 @@ bounds-words-node-3 c = simp length-set (omega (arith, c.requires.relax.there, c
 
 pub raise-requires : goal.raise-requires
 raise-requires c =
-    let s = c in
-    let a = s.args in
-    (cost-words a.nodes a.node a.charge a.steps a.words.now s.requires, s.requires.relax.there)
+    let a = c.args in
+    (cost-words a.nodes a.node a.charge a.steps a.words.now c.requires, c.requires.relax.there)
 
 pub returns : goal.returns
 returns c =
-    let s = c in
-    let a = s.args in
-    lowered a.nodes a.node a.charge a.steps a.words.now s.requires c.raise.new.0
-    c.raise.ensures
-
-pub shape_of-words : goal.shape_of-words
-shape_of-words c =
     let a = c.args in
-    lowered-length a.nodes a.words.now c.raise.new.0 a.node (cost a.charge a.steps)
-    (returns c).costs
+    lowered a.nodes a.node a.charge a.steps a.words.now c.requires c.raise.new.words
+    c.raise.ensures

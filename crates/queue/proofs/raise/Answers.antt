@@ -9,13 +9,11 @@ use Rattle.queue.proofs.raise.Goals as goal
 
 pub key-own-requires : goal.key-own-requires
 key-own-requires c =
-    let s = c in
-    (omega (arith, s.requires.0, s.requires.1), omega (arith, s.requires.0, s.requires.1))
+    (omega (arith, c.requires.0, c.requires.1), omega (arith, c.requires.0, c.requires.1))
 
 pub loop-place-init : goal.loop-place-init
 loop-place-init c =
-    let s = c in
-    rising-start s.args.nodes s.args.node s.args.words.now s.requires.1 s.requires.0
+    rising-start c.args.nodes c.args.node c.args.words.now c.requires.1 c.requires.0
 
 pub slot-requires : goal.slot-requires
 slot-requires c =
@@ -24,54 +22,37 @@ slot-requires c =
 
 pub ahead-requires : goal.ahead-requires
 ahead-requires c =
-    let s = c in
     let loop = c.loop-place in
     let one : 1 ≤ loop.place = omega arith in
-    seat s.args.nodes loop.words loop.invariant.words c.slot.result
+    seat c.args.nodes loop.words loop.invariant.words c.slot.result
     (rw c.slot.ensures (loop.invariant.words.slots loop.place one loop.invariant.inside))
-
-pub shape_of-words-then-ahead : goal.shape_of-words-then-ahead
-shape_of-words-then-ahead c =
-    let s = c in
-    let loop = c.loop-place in
-    costs-length s.args.nodes s.args.words.now loop.words loop.invariant.costs
 
 pub returns-then-ahead : goal.returns-then-ahead
 returns-then-ahead c =
-    let s = c in
     let key = c.key-own in
     let loop = c.loop-place in
     let slot = c.slot in
-    rising-stop s.args.nodes s.args.node s.args.words.now s.requires.1 loop.words loop.place (omega arith) loop.invariant
+    rising-stop c.args.nodes c.args.node c.args.words.now c.requires.1 loop.words loop.place (omega arith) loop.invariant
     key.result slot.result c.ahead.result key.ensures (sym slot.ensures) c.ahead.ensures
     c.if-ahead.true
 
 pub set_slot-requires : goal.set_slot-requires
 set_slot-requires c =
-    let s = c in
     let loop = c.loop-place in
-    (omega (arith, loop.invariant.inside, loop.invariant.words), omega (arith, s.requires.1, loop.invariant.words))
+    (omega (arith, loop.invariant.inside, loop.invariant.words), omega (arith, c.requires.1, loop.invariant.words))
 
 pub loop-place-preserved : goal.loop-place-preserved
 loop-place-preserved c =
-    let s = c in
     let key = c.key-own in
     let loop = c.loop-place in
     let slot = c.slot in
     let ahead = c.ahead in
     rw c.set_slot.ensures
-    (rising-up s.args.nodes s.args.node s.args.words.now s.requires.1 loop.words loop.place (omega arith) loop.invariant
+    (rising-up c.args.nodes c.args.node c.args.words.now c.requires.1 loop.words loop.place (omega arith) loop.invariant
     key.result slot.result ahead.result key.ensures (sym slot.ensures) ahead.ensures
     c.if-ahead.false)
-
-pub shape_of-words : goal.shape_of-words
-shape_of-words c =
-    let s = c in
-    let loop = c.loop-place in
-    costs-length s.args.nodes s.args.words.now loop.words loop.invariant.costs
 
 pub returns : goal.returns
 returns c =
     let loop = c.loop-place in
-    let s = c in
-    rising-end s.args.nodes s.args.node s.args.words.now s.requires.1 loop.words loop.place (omega arith) loop.invariant
+    rising-end c.args.nodes c.args.node c.args.words.now c.requires.1 loop.words loop.place (omega arith) loop.invariant

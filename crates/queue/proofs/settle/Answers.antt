@@ -11,9 +11,7 @@ use Rattle.queue.proofs.Replays.{Taken, Replayed, replayed-start, beside-seated,
 use Rattle.queue.proofs.settle.Goals as goal
 
 -- Slot 0 is in no match: whoever wins the one above this place, it stays.
--- PLACE
-outside :
-    (c : goal.In-loop-place) (b : ℕ)
+outside : (c : goal.In-loop-place) → (b : ℕ)
     → slot_at (put c.loop-place.words (c.loop-place.place / 2) b) 0 ≡ slot_at c.args.words.now 0
 outside c b =
     let n = c.args.nodes in
@@ -23,17 +21,15 @@ outside c b =
 
 pub key-settled-requires : goal.key-settled-requires
 key-settled-requires c =
-    let s = c in
-    (omega (arith, s.requires.there, s.requires.queue.words), omega (arith, s.requires.there, s.requires.queue.words))
+    (omega (arith, c.requires.there, c.requires.queue.words), omega (arith, c.requires.there, c.requires.queue.words))
 
 pub loop-place-init : goal.loop-place-init
 loop-place-init c =
-    let s = c in
-    let n = s.args.nodes in
-    let ws = s.args.words.now in
-    let e : c.key-settled.result ≡ key (lows n ws) s.args.node =
-    c.key-settled.ensures ∙ sym (key-lows n ws (lows n ws) s.args.node refl s.requires.there) in
-    (e, replayed-start n s.args.node c.key-settled.result ws s.requires e, refl)
+    let n = c.args.nodes in
+    let ws = c.args.words.now in
+    let e : c.key-settled.result ≡ key (lows n ws) c.args.node =
+    c.key-settled.ensures ∙ sym (key-lows n ws (lows n ws) c.args.node refl c.requires.there) in
+    (e, replayed-start n c.args.node c.key-settled.result ws c.requires e, refl)
 
 pub winner-other-requires : goal.winner-other-requires
 winner-other-requires c =
@@ -41,77 +37,60 @@ winner-other-requires c =
     record { words = r.words; low = omega (arith, r.low, r.high); high = omega (arith, r.low, r.high) }
 
 -- Who has won at the other place may be tested.
--- PLACE
-other-seat :
-    (c : goal.After-winner-other) → Seat c.loop-place.words c.winner-other.result
+other-seat : (c : goal.After-winner-other) → Seat c.loop-place.words c.winner-other.result
 other-seat c =
-    let s = c in
     let loop = c.loop-place in
-    let n = s.args.nodes in
+    let n = c.args.nodes in
     let k = c.key-settled.result in
     seat n loop.words loop.invariant.1.words c.winner-other.result
-    (beside-seated n k s.args.words.now loop.words loop.place loop.best loop.least (omega arith) loop.invariant.1
+    (beside-seated n k c.args.words.now loop.words loop.place loop.best loop.least (omega arith) loop.invariant.1
     c.winner-other.result c.winner-other.ensures)
 
--- Whichever way the test goes.
--- PLACE
-taken :
-    (c : goal.Joined-ahead)
-    → Taken c.loop-place.words
-    c.loop-place.best
-    c.loop-place.least
-    c.winner-other.result c.if-ahead.best c.if-ahead.least
-taken c =
-    let told = c.ahead.ensures in
-    ⊎_elim (λ x. inl (x.3, x.4 ∙ x.2.ensures, told.ahead x.0.taken)) (λ x. inr (x.1, x.2, told.behind x.0.left))
-    c.if-ahead.branch
-
 pub ahead-requires : goal.ahead-requires
-ahead-requires c = other-seat c
+ahead-requires c = other-seat c.before
 
 pub key-least-requires : goal.key-least-requires
 key-least-requires c =
-    let won = c in
-    seat-words won.loop-place.words won.winner-other.result (other-seat won)
+    seat-words c.loop-place.words c.winner-other.result (other-seat c)
     (c.ahead.ensures.ahead c.if-ahead.true).0
 
 pub set_slot-requires : goal.set_slot-requires
 set_slot-requires c =
-    let won = c in
-    let s = won in
-    let loop = won.loop-place in
-    let k = won.key-settled.result in
+    let taken : Taken c.loop-place.words
+    c.loop-place.best
+    c.loop-place.least
+    c.winner-other.result c.if-ahead.best c.if-ahead.least = let told = c.ahead.ensures in
+    ⊎_elim (λ x. inl (x.3, x.4 ∙ x.2.ensures, told.ahead x.0.taken)) (λ x. inr (x.1, x.2, told.behind x.0.left))
+    c.if-ahead.branch in
+    let loop = c.loop-place in
+    let k = c.key-settled.result in
     let r = loop.invariant.1 in (
       omega (arith, r.high, r.words),
       ⊎_elim (λ e. omega arith) (λ h. omega (arith, r.words))
-          (match-seated s.args.nodes k s.args.words.now loop.words loop.place loop.best loop.least (omega arith) r
-          won.winner-other.result won.winner-other.ensures c.if-ahead.best c.if-ahead.least (taken c)),
+          (match-seated c.args.nodes k c.args.words.now loop.words loop.place loop.best loop.least (omega arith) r
+          c.winner-other.result c.winner-other.ensures c.if-ahead.best c.if-ahead.least (taken)),
     )
 
 pub loop-place-preserved : goal.loop-place-preserved
 loop-place-preserved c =
-    let j = c in
-    let won = j in
-    let s = won in
-    let loop = won.loop-place in
-    let k = won.key-settled.result in (
+    let taken : Taken c.loop-place.words
+    c.loop-place.best
+    c.loop-place.least
+    c.winner-other.result c.if-ahead.best c.if-ahead.least = let told = c.ahead.ensures in
+    ⊎_elim (λ x. inl (x.3, x.4 ∙ x.2.ensures, told.ahead x.0.taken)) (λ x. inr (x.1, x.2, told.behind x.0.left))
+    c.if-ahead.branch in
+    let loop = c.loop-place in
+    let k = c.key-settled.result in (
       loop.invariant.0,
       rw c.set_slot.ensures
-          (replayed-up s.args.nodes k s.args.words.now loop.words loop.place loop.best loop.least (omega arith)
+          (replayed-up c.args.nodes k c.args.words.now loop.words loop.place loop.best loop.least (omega arith)
           loop.invariant.1
-          won.winner-other.result won.winner-other.ensures j.if-ahead.best j.if-ahead.least (taken j)),
-      rw c.set_slot.ensures (outside won j.if-ahead.best),
+          c.winner-other.result c.winner-other.ensures c.if-ahead.best c.if-ahead.least (taken)),
+      rw c.set_slot.ensures (outside c.before.before c.if-ahead.best),
     )
-
-pub UNKNOWN-same-length : goal.UNKNOWN-same-length
-UNKNOWN-same-length c =
-    let s = c in
-    let loop = c.loop-place in
-    costs-length s.args.nodes s.args.words.now loop.words loop.invariant.1.costs
 
 pub returns : goal.returns
 returns c =
-    let s = c in
     let loop = c.loop-place in
-    replayed-end s.args.nodes c.key-settled.result s.args.words.now loop.words s.args.node loop.place loop.best loop.least
+    replayed-end c.args.nodes c.key-settled.result c.args.words.now loop.words c.args.node loop.place loop.best loop.least
     loop.invariant.0 (omega arith) loop.invariant.2 loop.invariant.1

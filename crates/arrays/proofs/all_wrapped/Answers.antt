@@ -1,0 +1,16 @@
+-- `arrays::all_wrapped` meets its contract.
+-- Assumes nothing.
+use mathlib.Core.Path.{◌≡◌, ap, sym}
+use mathlib.Core.List.{map}
+use borrow.Author.Rules.{rules}
+use lib.ListN.{length}
+use Rattle.semantics.specs.Regions.Renumber.{wrapped}
+use Rattle.arrays.proofs.Entries.{array-is}
+use Rattle.arrays.proofs.all_wrapped.Goals as goal
+
+pub returns : goal.returns
+returns c =
+    let args = c.args in
+    let g : length args.group ≡ 3 = search rules in
+    rw (c.wrap-a.ensures, c.wrap-b.ensures, c.wrap-c.ensures)
+    (sym (ap (map (wrapped args.k)) (array-is 3 args.group g)))

@@ -1,0 +1,17 @@
+-- `arrays::raised` meets its contract. The loop has raised the first i groups.
+-- Assumes nothing.
+use mathlib.Core.Path.{◌≡◌, ap, ◌∙◌}
+use Prim.Native.Nat.{ℕ, suc, ◌-◌, ◌≤◌, ◌<◌}
+use native.Mathlib.Numerals.{add-one}
+use native.Mathlib.Omega.{arith}
+use borrow.Author.Rules.{rules}
+use lib.ListN.{length, get_or}
+use Rattle.arrays.specs.Arrays.{map_to}
+use Rattle.arrays.proofs.Turns.{map_to-more}
+use Rattle.arrays.proofs.raised.Given as goal
+
+abbrev pub invariant-loop-i : goal.invariant-loop-i
+invariant-loop-i l = (l.i ≤ l.n) × (l.next ≡ map_to suc l.i l.group)
+
+abbrev pub decreases-loop-i : goal.decreases-loop-i
+decreases-loop-i l = 3 - l.i

@@ -1,0 +1,30 @@
+-- `conditions::windows::windows` meets its contract. The loop's invariant: the row has the windows of the first i bytes. Assumes nothing.
+use mathlib.Core.Path.{◌≡◌, refl, ◌∙◌}
+use mathlib.Core.Logic.{⊎_elim}
+use Prim.Native.Nat.{◌-◌, ◌≤◌, ◌<◌}
+use borrow.Author.Rules.{rules}
+use native.Mathlib.Omega.{arith}
+use lib.ListN.{length, take}
+use Rattle.table.specs.Meaning.{conditions_from}
+use Rattle.conditions.specs.Windows.{row_of}
+use Rattle.conditions.proofs.Narrowing.{row-none, row-some, row-all}
+use Rattle.conditions.proofs.windows.windows.Goals as goal
+
+pub loop-i-init : goal.loop-i-init
+loop-i-init c = (omega arith, refl)
+
+pub loop-i-preserved : goal.loop-i-preserved
+loop-i-preserved c =
+    let a = c.args in
+    let turn = c.loop-i in
+    let there : turn.i < length a.conditions = search rules in (
+      omega arith,
+      ⊎_elim (λ w. w.2 ∙ row-some a.conditions turn.i there turn.row turn.invariant.1 _ w.0.taken w.1.ensures)
+          (λ w. w.1 ∙ row-none a.conditions turn.i there turn.row turn.invariant.1 w.0.left) c.if-condition-ne0.branch,
+    )
+
+pub returns : goal.returns
+returns c =
+    let a = c.args in
+    let six : length a.conditions ≡ 6 = search rules in
+    row-all a.conditions c.loop-i.i six (omega arith) c.loop-i.row c.loop-i.invariant.1

@@ -1,0 +1,7 @@
+-- `reader::records::copied` meets its contract. Assumes nothing.
+use borrow.Author.Rules.{rules}
+use Rattle.reader.proofs.Copying.{copies}
+use Rattle.reader.proofs.records.copied.Goals as goal
+
+pub returns : goal.returns
+returns c = copies _ c.byte_within-b.ensures

@@ -1,0 +1,36 @@
+-- `states::waited` meets its contract. The loop has counted up the first i values.
+-- Assumes nothing.
+use mathlib.Core.Path.{◌≡◌, ap, ◌∙◌}
+use Prim.Native.Nat.{ℕ, ◌+◌, ◌-◌, ◌≤◌, ◌<◌}
+use native.Mathlib.Omega.{arith}
+use borrow.Author.Rules.{rules}
+use lib.ListN.{length}
+use Rattle.arrays.specs.Arrays.{map_to}
+use Rattle.arrays.proofs.Turns.{map_to-more}
+use Rattle.states.proofs.waited.Goals as goal
+
+pub overflow_add-later : goal.overflow_add-later
+overflow_add-later c = omega (arith, c.requires.1 c.loop-i.i)
+
+pub loop-i-preserved : goal.loop-i-preserved
+loop-i-preserved c =
+    let args = c.args in
+    let i = c.loop-i.i in
+    let h : i < length args.values = search rules in
+    (omega arith, rw c.loop-i.invariant.1 (map_to-more (λ (v : ℕ). v + args.minutes) i args.values h))
+
+pub returns-then-timers-i : goal.returns-then-timers-i
+returns-then-timers-i c =
+    let all-waited : c.args.timers ≤ c.loop-i.i
+    → c.loop-i.later ≡ map_to (λ v. v + c.args.minutes) c.args.timers c.args.values = λ past. let args = c.args in
+    let e : c.loop-i.i ≡ args.timers = omega arith in
+    c.loop-i.invariant.1 ∙ ap (λ (m : ℕ). map_to (λ (v : ℕ). v + args.minutes) m args.values) e in
+    all-waited c.if-timers-i.true
+
+pub returns : goal.returns
+returns c =
+    let all-waited : c.args.timers ≤ c.loop-i.i
+    → c.loop-i.later ≡ map_to (λ v. v + c.args.minutes) c.args.timers c.args.values = λ past. let args = c.args in
+    let e : c.loop-i.i ≡ args.timers = omega arith in
+    c.loop-i.invariant.1 ∙ ap (λ (m : ℕ). map_to (λ (v : ℕ). v + args.minutes) m args.values) e in
+    all-waited (omega arith)

@@ -1,7 +1,8 @@
 -- `space::space_of` meets its contract.
 -- Assumes nothing.
+use mathlib.Core.List.{List}
 use mathlib.Core.Path.{refl}
-use Prim.Native.Nat.{◌*◌, ◌≤◌}
+use Prim.Native.Nat.{ℕ, ◌*◌, ◌≤◌}
 use native.Mathlib.Omega.{arith}
 use borrow.Author.Rules.{rules}
 use Rattle.regions.specs.Nodes.{most_cells}
@@ -15,18 +16,18 @@ pub cell_count-requires : goal.cell_count-requires
 cell_count-requires c = rw c.ceilings-ceilings.ensures (table-few c.args.table.now c.requires)
 
 -- The struct, with 0 for what is not known yet.
-abbrev partly : tie.After-corners → Space
-partly c = record { nodes = 0; block = 0; timers = c.before.before.before.timers.result; ceilings = c.before.before.ceilings.result }
+abbrev partly : ℕ → List ℕ → Space
+partly n l = record { nodes = 0; block = 0; timers = n; ceilings = l }
 
 -- The product for a mode fits, and that for all modes.
 block-fits : (c : goal.After-corners) → c.cell_count.result * c.corners.result ≤ most_cells * 75
 block-fits c =
-    block-few c.args.table.now c.requires (partly c) c.cell_count.result c.corners.result _ c.timers-timers.ensures
+    block-few c.args.table.now c.requires (partly c.timers-timers.result c.ceilings-ceilings.result) c.cell_count.result c.corners.result _ c.timers-timers.ensures
     c.ceilings-ceilings.ensures c.cell_count.ensures.0 c.corners.ensures refl c.cell_count.ensures.2
 
 nodes-fit : (c : goal.After-modes) → c.modes.result * (c.cell_count.result * c.corners.result) ≤ 16 * (most_cells * 75)
 nodes-fit c =
-    nodes-few c.args.table.now c.requires (partly c) c.cell_count.result c.corners.result c.modes.result
+    nodes-few c.args.table.now c.requires (partly c.timers-timers.result c.ceilings-ceilings.result) c.cell_count.result c.corners.result c.modes.result
     c.timers-timers.ensures c.ceilings-ceilings.ensures c.cell_count.ensures.0 c.corners.ensures
     c.modes.ensures c.cell_count.ensures.2
 

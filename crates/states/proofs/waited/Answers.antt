@@ -7,6 +7,7 @@ use borrow.Author.Rules.{rules}
 use lib.ListN.{length}
 use Rattle.arrays.specs.Arrays.{map_to}
 use Rattle.arrays.proofs.Turns.{map_to-more}
+use Rattle.states.proofs.waited.Goals.{At-loop-i}
 use Rattle.states.proofs.waited.Goals as goal
 
 pub overflow_add-later : goal.overflow_add-later
@@ -19,18 +20,16 @@ loop-i-preserved c =
     let h : i < length args.values = search rules in
     (omega arith, rw c.loop-i.invariant.1 (map_to-more (λ (v : ℕ). v + args.minutes) i args.values h))
 
-pub returns-then-timers-i : goal.returns-then-timers-i
-returns-then-timers-i c =
-    let all-waited : c.args.timers ≤ c.loop-i.i
-    → c.loop-i.later ≡ map_to (λ v. v + c.args.minutes) c.args.timers c.args.values = λ past. let args = c.args in
+-- The loop ends at the last timer.
+all-waited : (c : At-loop-i) → c.args.timers ≤ c.loop-i.i
+    → c.loop-i.later ≡ map_to (λ v. v + c.args.minutes) c.args.timers c.args.values
+all-waited c past =
+    let args = c.args in
     let e : c.loop-i.i ≡ args.timers = omega arith in
-    c.loop-i.invariant.1 ∙ ap (λ (m : ℕ). map_to (λ (v : ℕ). v + args.minutes) m args.values) e in
-    all-waited c.if-timers-i.true
+    c.loop-i.invariant.1 ∙ ap (λ (m : ℕ). map_to (λ (v : ℕ). v + args.minutes) m args.values) e
+
+pub returns-then-timers-i : goal.returns-then-timers-i
+returns-then-timers-i c = all-waited c.before.before c.if-timers-i.true
 
 pub returns : goal.returns
-returns c =
-    let all-waited : c.args.timers ≤ c.loop-i.i
-    → c.loop-i.later ≡ map_to (λ v. v + c.args.minutes) c.args.timers c.args.values = λ past. let args = c.args in
-    let e : c.loop-i.i ≡ args.timers = omega arith in
-    c.loop-i.invariant.1 ∙ ap (λ (m : ℕ). map_to (λ (v : ℕ). v + args.minutes) m args.values) e in
-    all-waited (omega arith)
+returns c = all-waited c.before (omega arith)

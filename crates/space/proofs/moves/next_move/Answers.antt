@@ -13,28 +13,20 @@ use Rattle.space.proofs.OpenMoves.{Passing, passing-none, passing-more, passing-
 use Rattle.space.proofs.MovesFrom.{next-rises}
 use Rattle.space.proofs.moves.next_move.Goals as goal
 
--- In a turn, after the next move is looked up.
-abbrev Turn : Type 0
-Turn = tie.After-after invariant-loop decreases-loop invariant-moves decreases-moves
+there : (c : goal.After-after-next) → c.moves.next < length (automaton_of c.requires.0).moves
+there c = (c.moves.invariant _ c.requires.1).there c.moves-test.true
 
-abbrev start : Turn → tie.Start invariant-loop decreases-loop invariant-moves decreases-moves
-start c = c.before.before.before
+rises : (c : goal.After-after-next) → c.moves.next < c.after-next.result
+rises c = next-rises c.requires.1.is-rules (there c) c.after-next.ensures
 
-there : (c : Turn) → c.before.before.moves.next < length (automaton_of (start c).requires.0).moves
-there c = (c.before.before.moves.invariant _ (start c).requires.1).there c.before.moves-test.true
-
-rises : (c : Turn) → c.before.before.moves.next < c.after.result
-rises c = next-rises (start c).requires.1.is-rules (there c) c.after.ensures
-
-passed :
-    (c : Turn) → (Open (start c).args.rules.now (start c).args.t2 c.before.before.moves.next → ⊥) → (t : List ℕ)
-    → NextFrom t (start c).args.rules.now (start c).args.from
-    → Passing t (start c).args.rules.now (start c).args.t2 (start c).args.from c.after.result
+passed : (c : goal.After-after-next) → (Open c.args.rules.now c.args.halves c.moves.next → ⊥) → (t : List ℕ)
+    → NextFrom t c.args.rules.now c.args.from
+    → Passing t c.args.rules.now c.args.halves c.args.from c.after-next.result
 passed c shut t r =
-    passing-more t _ _ _ r.is-rules _ (c.before.before.moves.invariant t r) c.before.moves-test.true shut _ c.after.ensures
+    passing-more t _ _ _ r.is-rules _ (c.moves.invariant t r) c.moves-test.true shut _ c.after-next.ensures
 
 pub moves-init : goal.moves-init
-moves-init c = passing-none t _ _ _ r
+moves-init c t r = passing-none t _ _ _ r
 
 pub after-next-requires : goal.after-next-requires
 after-next-requires c = (c.requires.1.is-rules.size, omega arith)
@@ -43,28 +35,28 @@ pub loop-timer-init : goal.loop-timer-init
 loop-timer-init c = (omega arith, λ x l. absurd (omega arith))
 
 pub inside-requires : goal.inside-requires
-inside-requires c = ((start c).requires.1.is-rules.size, omega arith, omega arith)
+inside-requires c = (c.requires.1.is-rules.size, omega arith, omega arith)
 
 pub moves-smaller : goal.moves-smaller
-moves-smaller c = omega (arith, rises c)
+moves-smaller c = omega (arith, rises c.before.before.before.before)
 
 pub moves-preserved : goal.moves-preserved
 moves-preserved c =
-    let args = (start c).args in
-    passed c
+    let args = c.args in
+    passed c.before.before.before.before
     (shuts args.rules.now args.halves c.moves.next c.loop-timer.timer (omega arith) _ (c.if-not-inside.true) c.inside.ensures)
 
 pub loop-timer-preserved : goal.loop-timer-preserved
 loop-timer-preserved c =
-    let args = (start c).args in
+    let args = c.args in
     let row = 16 + c.moves.next in
     (omega arith, in-more args.rules.now args.halves row c.loop-timer.timer _ c.inside.ensures (c.if-not-inside.false) c.loop-timer.invariant.1)
 
 pub returns-in-moves : goal.returns-in-moves
-returns-in-moves c =
+returns-in-moves c t r =
     let next = c.moves in
-    let args = (start c).args in
+    let args = c.args in
     passing-open t _ _ _ next.next (next.invariant t r) (now-open args.rules.now args.halves next.next c.loop-timer.timer (omega arith) c.loop-timer.invariant.1)
 
 pub returns : goal.returns
-returns c = passing-all t _ _ _ c.moves.next c.moves-test.false (c.moves.invariant t r)
+returns c t r = passing-all t _ _ _ c.moves.next c.moves-test.false (c.moves.invariant t r)

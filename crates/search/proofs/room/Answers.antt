@@ -1,4 +1,10 @@
 -- `search::room` meets its contract. Assumes nothing.
+use Prim.Native.Nat.{ℕ}
+use mathlib.Core.Path.{◌≡◌}
+use Rattle.semantics.specs.Automaton.{Automaton}
+use Rattle.search.specs.declared.Searched.{Searched}
+use Rattle.search.specs.declared.Searched.TheVariants.{Nodes}
+use Rattle.search.specs.Outcome.{nodes_of}
 use borrow.Author.Rules.{rules}
 use mathlib.Core.Path.{sym, ◌∙◌}
 use native.Mathlib.Omega.{arith}
@@ -8,28 +14,28 @@ use Rattle.search.proofs.room.Goals.{In-Nodes-2}
 use Rattle.search.proofs.room.Goals as goal
 
 -- The count is a number of nodes.
-counts : (c : In-Nodes-2) → Counts (automaton_of c.args.table.now) c.in-Nodes.n.0.0
-counts c =
-    nodes-counted (automaton_of c.args.table.now) c.in-Nodes.n.0.0
-    (sym c.nodes_of-count.ensures ∙ c.in-Nodes.n.1)
+counts : (a : Automaton) (r : Searched) (n : ℕ) → r ≡ nodes_of a → r ≡ Nodes n → Counts a n
+counts a r n e is = nodes-counted a n (sym e ∙ is)
 
 pub returns-in_default : goal.returns-in_default
 returns-in_default c =
-    let s = c.args in
     c.nodes_of-count.ensures
-    ∙ answer-many (automaton_of s.table.now) s.lent c.in_default.field-0.0.0 (sym c.nodes_of-count.ensures ∙ c.in_default.field-0.1)
+    ∙ answer-many (automaton_of c.args.table.now) c.args.lent c.in_default.field-0 (sym c.nodes_of-count.ensures ∙ c.in_default.is)
 
 pub overflow_mul-n : goal.overflow_mul-n
-overflow_mul-n c = let h = (counts c.before).few in omega (arith, h)
+overflow_mul-n c =
+    let k = counts (automaton_of c.args.table.now) _ c.in-Nodes.n c.nodes_of-count.ensures c.in-Nodes.is in
+    let few = k.few in
+    omega (arith, few)
 
 pub returns-then-lent-n : goal.returns-then-lent-n
 returns-then-lent-n c =
-    let s = c.args in
-    let k = counts c.before.before in
-    answer-short (automaton_of s.table.now) s.lent c.in-Nodes.n.0.0 (sym k.counted) k.few c.if-lent-n.true
+    let a = automaton_of c.args.table.now in
+    let k = counts a _ c.in-Nodes.n c.nodes_of-count.ensures c.in-Nodes.is in
+    answer-short a c.args.lent c.in-Nodes.n (sym k.counted) k.few c.if-lent-n.true
 
 pub returns : goal.returns
 returns c =
-    let s = c.args in
-    let k = counts c.before.before in
-    answer-nodes (automaton_of s.table.now) s.lent c.in-Nodes.n.0.0 (sym k.counted) k.few c.if-lent-n.false
+    let a = automaton_of c.args.table.now in
+    let k = counts a _ c.in-Nodes.n c.nodes_of-count.ensures c.in-Nodes.is in
+    answer-nodes a c.args.lent c.in-Nodes.n (sym k.counted) k.few c.if-lent-n.false

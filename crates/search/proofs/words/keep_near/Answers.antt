@@ -9,6 +9,7 @@ use lib.ListN.{length, set, length-set}
 use borrow.Author.Rules.{rules}
 use Rattle.semantics.specs.Graph.Path.{infinity}
 use Rattle.search.proofs.Keeping.{Keeping, keeping_none, keeping-chosen, keeping_all}
+use Rattle.search.proofs.words.keep_near.Goals.{then-near, else-near, then-near-2, else-near-2}
 use Rattle.search.proofs.words.keep_near.Goals as goal
 
 pub loop-v-init : goal.loop-v-init
@@ -28,11 +29,11 @@ loop-v-preserved c =
     let us = c.loop-v.words in
     let v = c.loop-v.v in
     let there : v < n = c.loop-v-test.true in
-    let most : c.charge_of-charge.result ≤ infinity = omega (arith, c.charge_of-charge.type-inv) in
+    let most : c.charge_of-charge.result ≤ infinity = omega (arith, c.charge_of-charge.type_inv) in
     let charge : c.if-near.words ≡ cond c.is_near-near.result c.charge_of-charge.result infinity =
-    ⊎_elim (λ x. rw x.0.taken x.1) (λ x. rw x.0.left x.1) c.if-near.branch in
+    elim c.if-near.branch [ then-near w ↦ rw w.if-near.true w.words-is | else-near w ↦ rw w.if-near.false w.words-is ] in
     let steps : c.if-near-2.words ≡ cond c.is_near-near.result c.steps_of-steps.result infinity =
-    ⊎_elim (λ x. rw x.0.taken x.1) (λ x. rw x.0.left x.1) c.if-near-2.branch in
+    elim c.if-near-2.branch [ then-near-2 w ↦ rw w.if-near-2.true w.words-is | else-near-2 w ↦ rw w.if-near-2.false w.words-is ] in
     let next : Keeping n best (v + 1) ws (set (set us (2 * v) c.if-near.words) (2 * v + 1) c.if-near-2.words) =
     rw (charge, steps)
     (keeping-chosen n best v ws us c.requires.words.room there c.loop-v.invariant.2 c.requires.blank c.charge_of-charge.result

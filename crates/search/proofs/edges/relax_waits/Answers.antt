@@ -38,13 +38,13 @@ halves-requires c =
 
 pub all_inside-requires : goal.all_inside-requires
 all_inside-requires c =
-    let s = start_of c in
+    let s = c in
     let few = place-mode s.args.table.now s.requires.0.setting.is-table (place_at s.args.from.at) s.requires.0.corner.place in
     (s.requires.0.setting.is-rules.size, omega (arith, few))
 
 pub returns-then-not-all_inside : goal.returns-then-not-all_inside
 returns-then-not-all_inside c =
-    waits-unmet (start_of c).requires.0 (start_of c).requires.1 (looked c.before.before.before.before.before.before) c.relax_linger.ensures
+    waits-unmet c.requires.0 c.requires.1 (looked c.before.before.before.before.before.before) c.relax_linger.ensures
     c.halves.ensures (λ met. true≢false (sym (c.all_inside.ensures.1 met) ∙ c.if-not-all_inside.true))
 
 pub node_of-to-requires : goal.node_of-to-requires
@@ -53,11 +53,11 @@ node_of-to-requires c =
 
 pub relax_delay-requires : goal.relax_delay-requires
 relax_delay-requires c =
-    delays-ready (start_of c).requires.0 (start_of c).requires.1 (looked c.before.before.before.before.before.before.before.before) c.relax_linger.ensures
+    delays-ready c.requires.0 c.requires.1 (looked c.before.before.before.before.before.before.before.before) c.relax_linger.ensures
     c.halves.ensures (c.all_inside.ensures.0 (c.if-not-all_inside.false)) c.node_of-to.result c.node_of-to.ensures
 
 pub returns : goal.returns
 returns c =
-    waits-done (start_of c).requires.0 (start_of c).requires.1 (looked c.before.before.before.before.before.before.before.before.before.before.before) c.relax_linger.ensures
+    waits-done c.requires.0 c.requires.1 (looked c.before.before.before.before.before.before.before.before.before.before.before) c.relax_linger.ensures
     c.halves.ensures (c.all_inside.ensures.0 (c.if-not-all_inside.false)) c.node_of-to.result c.node_of-to.ensures
     c.relax_delay.ensures

@@ -2,7 +2,6 @@
 -- Assumes nothing.
 use Prim.Native.Nat.{◌+◌}
 use native.Mathlib.Omega.{arith}
-use borrow.Author.Rules.{rules}
 use Rattle.queue.specs.Queue.{RelaxReady}
 use Rattle.search.proofs.WaitRelaxing.{drop-ready, drop-done, drop-none, keep-ready, keep-done, new-ready, new-sum, new-done}
 use Rattle.search.proofs.edges.relax_delay.Goals.{After-top}
@@ -43,7 +42,7 @@ overflow_add-rate c =
     omega (arith, sum)
 
 pub relax-requires-then-index-eq0 : goal.relax-requires-then-index-eq0
-relax-requires-then-index-eq0 c = offer c
+relax-requires-then-index-eq0 c = offer (goal.at.relax-requires-then-index-eq0 c).After-top
 
 pub returns-then-index-gt0 : goal.returns-then-index-gt0
 returns-then-index-gt0 c r =

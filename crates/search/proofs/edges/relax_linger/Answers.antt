@@ -4,7 +4,6 @@ use mathlib.Core.Path.{sym, ◌∙◌}
 use mathlib.Core.Bool.{true≢false}
 use Prim.Native.Nat.{◌+◌}
 use native.Mathlib.Omega.{arith}
-use borrow.Author.Rules.{rules}
 use Rattle.queue.specs.Queue.{RelaxReady}
 use Rattle.search.proofs.WaitRelaxing.{linger-ready, linger-sum, linger-done, linger-none}
 use Rattle.search.proofs.edges.relax_linger.Goals.{After-top}
@@ -16,7 +15,7 @@ offer : (c : After-top)
 offer c = linger-ready c.requires c.if-empty.true c.if-at-eq0.true c.top.result c.top.ensures
 
 pub overflow_add-last : goal.overflow_add-last
-overflow_add-last c = let o = offer c in omega (arith, o.there, o.queue.words.few)
+overflow_add-last c = let o = offer (goal.at.overflow_add-last c).After-top in omega (arith, o.there, o.queue.words.few)
 
 pub overflow_add-rate : goal.overflow_add-rate
 overflow_add-rate c =
@@ -24,7 +23,7 @@ overflow_add-rate c =
     omega (arith, sum)
 
 pub relax-requires : goal.relax-requires
-relax-requires c = offer c
+relax-requires c = offer (goal.at.relax-requires c).After-top
 
 pub returns-then-at-eq0 : goal.returns-then-at-eq0
 returns-then-at-eq0 c r =

@@ -8,6 +8,7 @@ use borrow.Author.Rules.{rules}
 use lib.ListN.{length, take}
 use Rattle.semantics.specs.Region.{count}
 use Rattle.arrays.proofs.Turns.{count-hit, count-miss}
+use Rattle.arrays.proofs.count_of.Goals.{then-group-i, else-group-i}
 use Rattle.arrays.proofs.count_of.Goals as goal
 
 pub loop-i-preserved : goal.loop-i-preserved
@@ -18,23 +19,19 @@ loop-i-preserved c =
     let e = c.loop-i.invariant.1 in
     let h : i < length l = search rules in (
       search rules,
-      ⊎_elim
-          (λ w. w.1 ∙ ap (λ (m : ℕ). m + 1) e ∙ count-hit g i l h w.0.taken)
-          (λ w. w.1 ∙ e ∙ count-miss g i l h w.0.left)
-          c.if-group-i.branch,
-      ⊎_elim (λ w. omega arith) (λ w. omega arith) c.if-group-i.branch,
+      elim c.if-group-i.branch [
+        then-group-i w ↦ w.found-is ∙ ap (λ (m : ℕ). m + 1) e ∙ count-hit g i l h w.if-group-i.true
+        | else-group-i w ↦ w.found-is ∙ e ∙ count-miss g i l h w.if-group-i.false
+      ],
+      elim c.if-group-i.branch [ then-group-i w ↦ omega arith | else-group-i w ↦ omega arith ],
     )
 
 pub returns-then-n-i : goal.returns-then-n-i
 returns-then-n-i c =
-    let counted : c.args.n ≤ c.loop-i.i → c.loop-i.found ≡ count c.args.g (take c.args.n c.args.group) = λ past. let args = c.args in
-    let e : c.loop-i.i ≡ args.n = omega arith in
-    c.loop-i.invariant.1 ∙ ap (λ (m : ℕ). count args.g (take m args.group)) e in
-    counted c.if-n-i.true
+    let e : c.loop-i.i ≡ c.args.n = omega arith in
+    c.loop-i.invariant.1 ∙ ap (λ (m : ℕ). count c.args.g (take m c.args.group)) e
 
 pub returns : goal.returns
 returns c =
-    let counted : c.args.n ≤ c.loop-i.i → c.loop-i.found ≡ count c.args.g (take c.args.n c.args.group) = λ past. let args = c.args in
-    let e : c.loop-i.i ≡ args.n = omega arith in
-    c.loop-i.invariant.1 ∙ ap (λ (m : ℕ). count args.g (take m args.group)) e in
-    counted (omega arith)
+    let e : c.loop-i.i ≡ c.args.n = omega arith in
+    c.loop-i.invariant.1 ∙ ap (λ (m : ℕ). count c.args.g (take m c.args.group)) e

@@ -8,6 +8,7 @@ use lib.ListN.{length, take}
 use Rattle.table.specs.Meaning.{conditions_from}
 use Rattle.conditions.specs.Windows.{row_of}
 use Rattle.conditions.proofs.Narrowing.{row-none, row-some, row-all}
+use Rattle.conditions.proofs.windows.windows.Goals.{then-condition-ne0, else-condition-ne0}
 use Rattle.conditions.proofs.windows.windows.Goals as goal
 
 pub loop-i-init : goal.loop-i-init
@@ -19,8 +20,12 @@ loop-i-preserved c =
     let turn = c.loop-i in
     let there : turn.i < length a.conditions = search rules in (
       omega arith,
-      ⊎_elim (λ w. w.2 ∙ row-some a.conditions turn.i there turn.row turn.invariant.1 _ w.0.taken w.1.ensures)
-          (λ w. w.1 ∙ row-none a.conditions turn.i there turn.row turn.invariant.1 w.0.left) c.if-condition-ne0.branch,
+      elim c.if-condition-ne0.branch [
+        then-condition-ne0 w ↦
+        w.row-is ∙ row-some a.conditions turn.i there turn.row turn.invariant.1 _ w.if-condition-ne0.true w.narrowed-next.ensures
+        | else-condition-ne0 w ↦
+        w.row-is ∙ row-none a.conditions turn.i there turn.row turn.invariant.1 w.if-condition-ne0.false
+      ],
     )
 
 pub returns : goal.returns

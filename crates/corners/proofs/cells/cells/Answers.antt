@@ -15,7 +15,7 @@ two c = product-few c.factor.result c.factor-2.result 16 16 c.factor.ensures.hig
 
 all : (c : goal.After-factor-3) → c.factor.result * c.factor-2.result * c.factor-3.result ≤ 4096
 all c =
-    product-few (c.factor.result * c.factor-2.result) c.factor-3.result 256 16 (two c)
+    product-few (c.factor.result * c.factor-2.result) c.factor-3.result 256 16 (two c.before)
     c.factor-3.ensures.high
 
 one : (c : goal.After-factor-3) → 1 ≤ c.factor.result * c.factor-2.result * c.factor-3.result
@@ -35,7 +35,7 @@ pub factor-requires-3 : goal.factor-requires-3
 factor-requires-3 c = c.requires _
 
 pub overflow_mul-result-2 : goal.overflow_mul-result-2
-overflow_mul-result-2 c = omega (arith, two c.before, all c)
+overflow_mul-result-2 c = omega (arith, all c)
 
 pub returns : goal.returns
 returns c =

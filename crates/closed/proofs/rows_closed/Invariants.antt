@@ -1,0 +1,20 @@
+-- `closed::rows_closed` meets its contract. The loop's invariant: the rows of the first i records are closed.
+-- Assumes nothing.
+use mathlib.Core.Path.{◌≡◌, refl, sym, ap, ◌∙◌}
+use mathlib.Core.Bool.{Bool, true}
+use mathlib.Core.List.{List}
+use Prim.Native.Nat.{ℕ, ◌+◌, ◌*◌, ◌-◌, ◌≤◌}
+use native.Mathlib.Numerals.{add-one}
+use native.Mathlib.Omega.{arith}
+use borrow.Author.Tests.{not-true, not-false}
+use lib.ListN.{drop}
+use lib.Seq.{drop-drop}
+use Rattle.closed.specs.Closed.{rows_closed}
+use Rattle.closed.proofs.Closing.{row_closed, rows_more, rows-fail}
+use Rattle.closed.proofs.rows_closed.Given as goal
+
+abbrev pub invariant-loop-i : goal.invariant-loop-i
+invariant-loop-i l = (rows_closed l.stride l.i (drop l.first l.table) ≡ true) × (l.i ≤ l.count)
+
+abbrev pub decreases-loop-i : goal.decreases-loop-i
+decreases-loop-i l = l.count - l.i

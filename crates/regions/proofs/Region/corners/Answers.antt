@@ -1,0 +1,7 @@
+-- `regions::Region::corners` meets its contract.
+-- Assumes nothing.
+use borrow.Author.Rules.{rules}
+use Rattle.regions.proofs.Region.corners.Goals as goal
+
+pub returns : goal.returns
+returns c = c.corner_count.ensures.0

@@ -1,0 +1,46 @@
+-- `regions::Region::reset_alone` meets its contract.
+-- Assumes nothing.
+use Prim.Native.Nat.{◌<◌, ◌≤◌}
+use native.Mathlib.Omega.{arith}
+use borrow.Author.Rules.{rules}
+use lib.ListN.{get_or}
+use Rattle.regions.specs.Held.{view}
+use Rattle.regions.specs.Laws.Fields.{holds, top-few, group-top}
+use Rattle.regions.proofs.Methods.{alone-pos, reset-alone-is}
+use Rattle.regions.proofs.Region.reset_alone.Goals as goal
+
+pub overflow_sub-top : goal.overflow_sub-top
+overflow_sub-top c =
+    let gone : (0 < get_or c.args.self.group c.args.timer 0)
+    × (get_or c.args.self.group c.args.timer 0 ≤ c.args.self.top)
+    × (c.args.self.top ≤ 3) = let s = c.args.self in
+    let h = holds s c.requires.0 in
+    let x = c.args.timer in
+    (alone-pos s (view s) h x c.requires.2, group-top s (view s) h x, top-few s (view s) h) in
+    omega (arith, gone)
+
+pub merged-prices-requires : goal.merged-prices-requires
+merged-prices-requires c =
+    let gone : (0 < get_or c.args.self.group c.args.timer 0)
+    × (get_or c.args.self.group c.args.timer 0 ≤ c.args.self.top)
+    × (c.args.self.top ≤ 3) = let s = c.args.self in
+    let h = holds s c.requires.0 in
+    let x = c.args.timer in
+    (alone-pos s (view s) h x c.requires.2, group-top s (view s) h x, top-few s (view s) h) in
+    omega (arith, gone)
+
+pub overflow_sub-self : goal.overflow_sub-self
+overflow_sub-self c =
+    let gone : (0 < get_or c.args.self.group c.args.timer 0)
+    × (get_or c.args.self.group c.args.timer 0 ≤ c.args.self.top)
+    × (c.args.self.top ≤ 3) = let s = c.args.self in
+    let h = holds s c.requires.0 in
+    let x = c.args.timer in
+    (alone-pos s (view s) h x c.requires.2, group-top s (view s) h x, top-few s (view s) h) in
+    omega (arith, gone)
+
+pub returns : goal.returns
+returns c =
+    let s = c.args.self in
+    let h = holds s c.requires.0 in
+    rw (c.all_lowered-group.ensures, c.merged-prices.ensures) (reset-alone-is s (view s) h c.args.timer c.requires.2)

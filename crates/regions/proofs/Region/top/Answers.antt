@@ -1,0 +1,9 @@
+-- `regions::Region::top` meets its contract.
+-- Assumes nothing.
+use borrow.Author.Rules.{rules}
+use Rattle.regions.specs.Held.{view}
+use Rattle.regions.specs.Laws.Fields.{holds, top-is}
+use Rattle.regions.proofs.Region.top.Goals as goal
+
+pub returns : goal.returns
+returns c = let s = c.args.self in top-is s (view s) (holds s c.requires)

@@ -39,8 +39,8 @@ module _ (xs : List ℕ) (r : PricedRegion) (w : WellFormed r) (named : (x : ℕ
           (ap (λ (k : ℕ). get_or r.whole y 0 + k) (high-alike (get_or r.whole y 0) g (get_or r.group y 0) (λ q. zero-kept q) (λ q. zero-was q few (dec_lt 0 g))))
         where
           zero-kept : get_or s.group y 0 ≡ 0 → get_or r.group y 0 ≡ 0
-          zero-kept q = sym (to.old-group y h e) ∙ ap to.old q ∙ to.ground
+          zero-kept q = sym (to.old-group y h e) ∙ ap to.old q ∙ to.grounded
 
           zero-was : get_or r.group y 0 ≡ 0 → get_or s.group y 0 ≤ top (reset_all xs r) → Dec (0 < get_or s.group y 0) → get_or s.group y 0 ≡ 0
           zero-was q few (no n) = omega arith
-          zero-was q few (yes p) = absurd (omega (arith, to.rising 0 (get_or s.group y 0) p few, to.ground, to.old-group y h e))
+          zero-was q few (yes p) = absurd (omega (arith, to.rising 0 (get_or s.group y 0) p few, to.grounded, to.old-group y h e))

@@ -2,7 +2,6 @@
 -- Assumes nothing.
 use Prim.Native.Nat.{◌+◌, ◌*◌, ◌%◌, ◌<◌}
 use native.Mathlib.Omega.{arith}
-use borrow.Author.Rules.{rules}
 use Rattle.table.specs.Theorems.Access.{target_below}
 use Rattle.space.specs.Laws.Shares.{few-modes, block_within}
 use Rattle.steps.proofs.LeadingMoves.{along-few, led-move-ready, along-tried}

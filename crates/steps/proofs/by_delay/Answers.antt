@@ -1,8 +1,6 @@
 -- `steps::by_delay` meets its contract.
 -- Assumes nothing.
 use native.Mathlib.Omega.{arith}
-use borrow.Author.Rules.{rules}
-use borrow.Author.Tests.{not-true, not-false}
 use Rattle.space.specs.Space.{place_at}
 use Rattle.space.proofs.Settings.{place-mode}
 use Rattle.steps.proofs.Standing.{stand-setting}

@@ -1,7 +1,6 @@
 -- `steps::by_linger` meets its contract.
 -- Assumes nothing.
 use native.Mathlib.Omega.{arith}
-use borrow.Author.Rules.{rules}
 use Rattle.steps.proofs.Standing.{corners-ready}
 use Rattle.steps.proofs.Trying.{one-before, one-silent, one_found}
 use Rattle.space.proofs.Delayed.{delay-ready, delayed-valid, delayed-fewer}

@@ -1,19 +1,16 @@
 -- `steps::by_move` meets its contract. The loop is at a move that is not passed over, and those before it lead nowhere.
 -- Assumes nothing.
-use Prim.Native.Nat.{◌-◌}
 use native.Mathlib.Omega.{arith}
-use borrow.Author.Rules.{rules}
-use Rattle.space.specs.Moves.{NextFrom, OpenMove}
+use Rattle.space.specs.Moves.{NextFrom}
 use Rattle.space.specs.Space.{place_at}
-use Rattle.space.specs.Images.{Images}
 use Rattle.space.specs.Laws.Images.{images-none}
 use Rattle.space.proofs.Settings.{place-half-room}
 use Rattle.space.proofs.MovesFrom.{next-rises, next-ready, open_after}
 use Rattle.space.proofs.Imaging.{move-image}
-use Rattle.steps.specs.Images.{IsImage}
 use Rattle.steps.proofs.Standing.{stand-setting}
 use Rattle.steps.proofs.Trying.{tried-none}
-use Rattle.steps.proofs.PassedMoves.{SilentTo, along-ready, silent-first, silent-next, move-found, moves-none}
+use Rattle.steps.proofs.PassedMoves.{along-ready, silent-first, silent-next, move-found, moves-none}
+use Rattle.steps.proofs.by_move.Goals.{After-after}
 use Rattle.steps.proofs.by_move.Goals as goal
 
 pub returns-then-stand-ge-DELAY : goal.returns-then-stand-ge-DELAY
@@ -59,17 +56,18 @@ pub after-requires : goal.after-requires
 after-requires c =
     (c.requires.1.size, c.loop-e-test.true)
 
-ready : (c : goal.After-after) → NextFrom c.args.table.now c.args.rules.now c.after.result
+ready : (c : After-after) → NextFrom c.args.table.now c.args.rules.now c.after.result
 ready c =
     next-ready c.requires.1 (c.loop-e.invariant.0.there c.loop-e-test.true) c.after.ensures
 
 pub next_move-e-requires : goal.next_move-e-requires
-next_move-e-requires c = (_, ready c)
+next_move-e-requires c = (_, ready (goal.at.next_move-e-requires c).After-after)
 
 pub loop-e-smaller : goal.loop-e-smaller
 loop-e-smaller c =
     let there = c.loop-e.invariant.0.there c.loop-e-test.true in
-    omega (arith, c.loop-e-test.true, next-rises c.requires.1 there c.after.ensures, (c.next_move-e.ensures _ (ready c.before)).low)
+    let found = c.next_move-e.ensures _ (ready (goal.at.loop-e-smaller c).After-after) in
+    omega (arith, c.loop-e-test.true, next-rises c.requires.1 there c.after.ensures, found.low)
 
 pub loop-e-preserved : goal.loop-e-preserved
 loop-e-preserved c =
@@ -77,7 +75,7 @@ loop-e-preserved c =
     let move = inv.0 in
     let o =
     open_after c.requires.1 (move.there c.loop-e-test.true) c.after.ensures (move.source c.loop-e-test.true)
-    (c.next_move-e.ensures _ (ready c.before)) in (
+    (c.next_move-e.ensures _ (ready (goal.at.loop-e-preserved c).After-after)) in (
       o.move,
       silent-next c.requires.0 c.requires.1 c.halves-halves.ensures inv.1 c.along_move-next.ensures c.if-next-ne0.false o,
       c.image-by_resets.ensures.images,

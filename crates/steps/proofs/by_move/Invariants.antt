@@ -1,19 +1,10 @@
 -- `steps::by_move` meets its contract. The loop is at a move that is not passed over, and those before it lead nowhere.
 -- Assumes nothing.
 use Prim.Native.Nat.{◌-◌}
-use native.Mathlib.Omega.{arith}
-use borrow.Author.Rules.{rules}
-use Rattle.space.specs.Moves.{NextFrom, OpenMove}
-use Rattle.space.specs.Space.{place_at}
+use Rattle.space.specs.Moves.{OpenMove}
 use Rattle.space.specs.Images.{Images}
-use Rattle.space.specs.Laws.Images.{images-none}
-use Rattle.space.proofs.Settings.{place-half-room}
-use Rattle.space.proofs.MovesFrom.{next-rises, next-ready, open_after}
-use Rattle.space.proofs.Imaging.{move-image}
 use Rattle.steps.specs.Images.{IsImage}
-use Rattle.steps.proofs.Standing.{stand-setting}
-use Rattle.steps.proofs.Trying.{tried-none}
-use Rattle.steps.proofs.PassedMoves.{SilentTo, along-ready, silent-first, silent-next, move-found, moves-none}
+use Rattle.steps.proofs.PassedMoves.{SilentTo}
 use Rattle.steps.proofs.by_move.Given as goal
 
 abbrev pub invariant-loop-e : goal.invariant-loop-e

@@ -2,7 +2,6 @@
 -- Assumes nothing.
 use Prim.Native.Nat.{◌<◌}
 use native.Mathlib.Omega.{arith}
-use borrow.Author.Rules.{rules}
 use Rattle.steps.proofs.Imaged.{after-ready, after-few, after-goes}
 use Rattle.steps.proofs.corners_after.Goals as goal
 

@@ -1,7 +1,6 @@
 -- `steps::found` meets its contract.
 -- Assumes nothing.
 use mathlib.Core.Path.{refl}
-use borrow.Author.Rules.{rules}
 use Rattle.steps.proofs.found.Goals as goal
 
 pub returns-then-set-eq0 : goal.returns-then-set-eq0

@@ -1,8 +1,6 @@
 -- `steps::image` meets its contract.
 -- Assumes nothing.
-use mathlib.Core.Logic.{⊎_elim}
 use Prim.Native.Nat.{◌%◌}
-use borrow.Author.Rules.{rules}
 use lib.ListN.{get_or}
 use Rattle.space.specs.Images.{ImageDone}
 use Rattle.space.specs.Laws.Images.{image-kept, image-stored}
@@ -15,7 +13,7 @@ done : (c : Joined-images-k) → ImageDone (IsImage c.args.space c.args.at) c.ar
     (get_or c.if-images-k.images (c.args.resets % 8) 0)
 done c =
     elim c.if-images-k.branch [
-      then-images-k w ↦ image-stored c.requires.1 c.args.resets _ _ w.image_of.ensures w.images-is
+      | then-images-k w ↦ image-stored c.requires.1 c.args.resets _ _ w.image_of.ensures w.images-is
       | else-images-k w ↦ image-kept c.requires.1 c.args.resets _ w.if-images-k.false w.images-is
     ]
 

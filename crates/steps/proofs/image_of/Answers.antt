@@ -1,7 +1,6 @@
 -- `steps::image_of` meets its contract.
 -- Assumes nothing.
 use native.Mathlib.Omega.{arith}
-use borrow.Author.Rules.{rules}
 use Rattle.space.proofs.Imaging.{moved_ready}
 use Rattle.steps.proofs.Imaged.{image-region, image-few, image-made}
 use Rattle.steps.proofs.image_of.Goals as goal

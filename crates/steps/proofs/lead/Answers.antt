@@ -1,8 +1,6 @@
 -- `steps::lead` meets its contract.
 -- Assumes nothing.
 use native.Mathlib.Omega.{arith}
-use borrow.Author.Rules.{rules}
-use borrow.Author.Tests.{not-true, not-false}
 use Rattle.steps.proofs.Sets.{refused, adds_none, adds-fits}
 use Rattle.steps.proofs.lead.Goals as goal
 

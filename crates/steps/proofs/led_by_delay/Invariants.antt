@@ -1,13 +1,8 @@
 -- `steps::led_by_delay` meets its contract. The loop has the corners below i to which the delay leads.
 -- Assumes nothing.
 use Prim.Native.Nat.{◌-◌, ◌≤◌}
-use native.Mathlib.Omega.{arith}
-use borrow.Author.Rules.{rules}
-use lib.Dec.{ltb}
-use Rattle.regions.specs.Held.{view}
 use Rattle.steps.specs.Leading.{IsLed}
-use Rattle.space.proofs.Settings.{padded-at, top_below}
-use Rattle.steps.proofs.Leads.{DelaysBelow, delays-none, delays-more, delays-all, weight-small}
+use Rattle.steps.proofs.Leads.{DelaysBelow}
 use Rattle.steps.proofs.led_by_delay.Given as goal
 
 abbrev pub invariant-loop-i : goal.invariant-loop-i

@@ -1,9 +1,6 @@
 -- `steps::led_by_move` meets its contract. The loop has the corners to which those below j lead.
 -- Assumes nothing.
-use Prim.Native.Nat.{◌-◌, ◌≤◌}
 use native.Mathlib.Omega.{arith}
-use borrow.Author.Rules.{rules}
-use Rattle.steps.specs.Leading.{IsLed, MoveEdges}
 use Rattle.steps.proofs.Leads.{moves-none, moves_more, moves-all}
 use Rattle.steps.proofs.led_by_move.Goals as goal
 

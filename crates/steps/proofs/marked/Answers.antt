@@ -1,6 +1,5 @@
 -- `steps::marked` meets its contract.
 -- Assumes nothing.
-use borrow.Author.Rules.{rules}
 use borrow.Author.Tests.{eqb-true, eq-eqb}
 use Rattle.steps.proofs.marked.Goals as goal
 

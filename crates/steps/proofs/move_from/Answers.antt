@@ -2,13 +2,13 @@
 -- Assumes nothing.
 use mathlib.Core.Path.{◌≡◌}
 use mathlib.Core.List.{List}
-use Prim.Native.Nat.{ℕ, ◌-◌, ◌<◌}
+use Prim.Native.Nat.{ℕ, ◌<◌}
 use native.Mathlib.Omega.{arith}
 use lib.ListN.{length}
 use Rattle.semantics.specs.Automaton.{move_at}
 use Rattle.table.specs.Held.{automaton_of}
 use Rattle.space.specs.Laws.Shares.{few-modes}
-use Rattle.space.proofs.MovesFrom.{Since, since-first, since-after, since-done, first-begins, first-ready, next-open, first-after, next-rises}
+use Rattle.space.proofs.MovesFrom.{since-first, since-after, since-done, first-begins, first-ready, next-open, first-after, next-rises}
 use Rattle.steps.specs.Leading.{FromMode}
 use Rattle.steps.proofs.move_from.Goals as goal
 

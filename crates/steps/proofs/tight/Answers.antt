@@ -1,7 +1,6 @@
 -- `steps::tight` meets its contract.
 -- Assumes nothing.
 use borrow.Author.Tests.{eqb-true, eq-eqb}
-use borrow.Author.Rules.{rules}
 use Rattle.steps.proofs.Sets.{refutes}
 use Rattle.steps.proofs.tight.Goals as goal
 

@@ -3,7 +3,6 @@
 use mathlib.Core.Path.{sym, ap, subst}
 use Prim.Native.Nat.{ℕ, ◌+◌}
 use native.Mathlib.Omega.{arith}
-use borrow.Author.Rules.{rules}
 use Rattle.steps.specs.Leading.{Adds}
 use Rattle.steps.proofs.Sets.{refused, with-same, shifted, with-below, with-more}
 use Rattle.steps.proofs.with.Goals as goal

@@ -19,43 +19,45 @@ use Rattle.space.proofs.MovesFrom.{first-begins, first-ready, next-open, next-re
 use Rattle.search.specs.Edges.{Holding}
 use Rattle.search.proofs.Offers.{hold-again}
 use Rattle.search.proofs.MoveRelaxing.{MovesTo, moves-none, moves-all, move-node, move-inside, move-sum, move-ready, moves_more}
+use Rattle.search.proofs.edges.relax_moves.Goals.{After-first, In-loop-e, After-resets, After-image, After-next_move-e-in-loop-e}
 use Rattle.search.proofs.edges.relax_moves.Goals as goal
 
-begins : (c : goal.After-first) → FirstFrom (automaton_of c.args.table.now) c.args.from.at.mode 0 c.first.result
+begins : (c : After-first) → FirstFrom (automaton_of c.args.table.now) c.args.from.at.mode 0 c.first.result
 begins c =
     first-begins c.requires.0.setting.is-rules c.requires.0.corner.place.in-modes c.first.ensures
 
-here : (c : goal.In-loop-e) → OpenMove c.args.table.now c.args.rules.now c.halves-halves.result c.args.from.at.mode
-    c.loop-e.e
-here c = c.loop-e.invariant.0
-
-stand : (c : goal.In-loop-e) → c.halves-halves.result ≡ halves_of (view c.args.from.at.region)
-stand c = c.halves-halves.ensures
-
--- Its image, and the node to which it leads.
-ready : (c : goal.After-resets) → ImageReady c.args.space c.args.from.at c.resets.result
+-- The image of the move in hand, and the node to which it leads.
+ready : (c : After-resets) → ImageReady c.args.space c.args.from.at c.resets.result
 ready c =
-    move-image c.requires.0.setting c.requires.0.corner (here c.before.before.before) c.loop-e-test.true c.resets.ensures
+    move-image c.requires.0.setting c.requires.0.corner c.loop-e.invariant.0 c.loop-e-test.true c.resets.ensures
 
-node : (c : goal.After-image) → c.image.result + c.target-target.result * (start c).args.space.block
-    ≡ (move_edge (automaton_of (start c).args.table.now) (place_at (start c).args.from.at) (start c).args.from.at.index c.loop-e.e).to
+node :
+    (c : After-image)
+    → c.image.result + c.target-target.result * c.args.space.block
+    ≡ (move_edge (automaton_of c.args.table.now) (place_at c.args.from.at) c.args.from.at.index c.loop-e.e).to
 node c =
-    move-node c.requires.0.setting c.args.from c.requires.0.corner _ (stand c.before.before.before.before) _ c.loop-e-test.true (here c.before.before.before.before) _ c.resets.ensures _ _
-    c.image.ensures.is c.target-target.ensures
+    move-node c.requires.0.setting c.args.from c.requires.0.corner _ c.halves-halves.ensures _ c.loop-e-test.true c.loop-e.invariant.0
+    _ c.resets.ensures _ _ c.image.ensures.is c.target-target.ensures
 
-node-few : (c : goal.After-image) → (move_edge (automaton_of (start c).args.table.now) (place_at (start c).args.from.at) (start c).args.from.at.index c.loop-e.e).to
-    < 65535
+node-few :
+    (c : After-image)
+    → (move_edge (automaton_of c.args.table.now) (place_at c.args.from.at) c.args.from.at.index c.loop-e.e).to < 65535
 node-few c =
-    omega (arith, move-inside c.requires.0.setting c.args.from c.requires.0.corner _ (stand c.before.before.before.before) _ c.loop-e-test.true (here c.before.before.before.before) c.requires.0.goal _ c.requires.0.holding, c.requires.0.setting.few)
+    let z = c.requires.0 in
+    let inside =
+    move-inside z.setting c.args.from z.corner _ c.halves-halves.ensures _ c.loop-e-test.true c.loop-e.invariant.0 z.goal _ z.holding in
+    omega (arith, inside, z.setting.few)
 
-next : (c : goal.After-next_move-e-in-loop-e) → OpenFrom (start c).args.table.now (start c).args.rules.now
-    c.halves-halves.result (start c).args.from.at.mode
+-- The next move.
+next :
+    (c : After-next_move-e-in-loop-e)
+    → OpenFrom c.args.table.now c.args.rules.now c.halves-halves.result c.args.from.at.mode
     (c.loop-e.e + 1) c.next_move-e-in-loop-e.result
 next c =
     let some = c.loop-e-test.true in
     let is = c.requires.0.setting.is-rules in
-    open_after is ((here c.before.before.before.before.before.before.before.before.before.before.before.before).there some) c.after.ensures ((here c.before.before.before.before.before.before.before.before.before.before.before.before).source some)
-    (c.next_move-e-in-loop-e.ensures _ (next-ready is ((here c.before.before.before.before.before.before.before.before.before.before.before.before).there some) c.after.ensures))
+    open_after is (c.loop-e.invariant.0.there some) c.after.ensures (c.loop-e.invariant.0.source some)
+    (c.next_move-e-in-loop-e.ensures _ (next-ready is (c.loop-e.invariant.0.there some) c.after.ensures))
 
 pub halves-halves-requires : goal.halves-halves-requires
 halves-halves-requires c =
@@ -71,60 +73,66 @@ first-requires c =
     (c.requires.0.setting.is-rules.size, place-mode _ c.requires.0.setting.is-table (place_at c.args.from.at) c.requires.0.corner.place)
 
 pub next_move-e-requires : goal.next_move-e-requires
-next_move-e-requires c = (_, first-ready c.requires.0.setting.is-rules (begins c))
+next_move-e-requires c = (_, first-ready c.requires.0.setting.is-rules (begins (goal.at.next_move-e-requires c).After-first))
 
 pub loop-e-init : goal.loop-e-init
 loop-e-init c =
-    let f = next-open (begins c.before) (c.next_move-e.ensures _ (first-ready c.requires.0.setting.is-rules (begins c.before))) in
-    (f.move, images-none _, moves-none c.requires.0.setting c.args.from c.requires.0.corner _ c.halves-halves.ensures _ f c.args.words.now)
+    let z = c.requires.0 in
+    let b = begins (goal.at.loop-e-init c).After-first in
+    let f = next-open b (c.next_move-e.ensures _ (first-ready z.setting.is-rules b)) in
+    (f.move, images-none _, moves-none z.setting c.args.from z.corner _ c.halves-halves.ensures _ f c.args.words.now)
 
 pub target-target-requires : goal.target-target-requires
-target-target-requires c = (c.requires.0.setting.is-table, (here c).there c.loop-e-test.true)
+target-target-requires c = (c.requires.0.setting.is-table, c.loop-e.invariant.0.there c.loop-e-test.true)
 
 pub overflow_cast-target : goal.overflow_cast-target
 overflow_cast-target c =
     let z = c.requires.0.setting.is-table in
-    omega (arith, c.target-target.ensures, target_below c.args.table.now z c.loop-e.e ((here c.before).there c.loop-e-test.true), few-modes _ z)
+    let there = c.loop-e.invariant.0.there c.loop-e-test.true in
+    omega (arith, c.target-target.ensures, target_below c.args.table.now z c.loop-e.e there, few-modes _ z)
 
 pub resets-requires : goal.resets-requires
-resets-requires c = (c.requires.0.setting.is-table, (here c.before.before).there c.loop-e-test.true)
+resets-requires c = (c.requires.0.setting.is-table, c.loop-e.invariant.0.there c.loop-e-test.true)
 
 pub image-requires : goal.image-requires
-image-requires c = (ready c, c.loop-e.invariant.1)
+image-requires c = (ready (goal.at.image-requires c).After-resets, c.loop-e.invariant.1)
 
 pub overflow_mul-to : goal.overflow_mul-to
-overflow_mul-to c = omega (arith, node c, node-few c)
+overflow_mul-to c = omega (arith, node (goal.at.overflow_mul-to c).After-image, node-few (goal.at.overflow_mul-to c).After-image)
 
 pub overflow_cast-to : goal.overflow_cast-to
-overflow_cast-to c = omega (arith, node c, node-few c)
+overflow_cast-to c = omega (arith, node (goal.at.overflow_cast-to c).After-image, node-few (goal.at.overflow_cast-to c).After-image)
 
 pub overflow_add-to : goal.overflow_add-to
-overflow_add-to c = omega (arith, node c, node-few c)
+overflow_add-to c = omega (arith, node (goal.at.overflow_add-to c).After-image, node-few (goal.at.overflow_add-to c).After-image)
 
 pub price-requires : goal.price-requires
-price-requires c = (c.requires.0.setting.is-table, (here c.before.before.before.before).there c.loop-e-test.true)
+price-requires c = (c.requires.0.setting.is-table, c.loop-e.invariant.0.there c.loop-e-test.true)
 
 pub overflow_cast-charge : goal.overflow_cast-charge
 overflow_cast-charge c =
-    let there = (here c.before.before.before.before.before).there c.loop-e-test.true in
+    let there = c.loop-e.invariant.0.there c.loop-e-test.true in
     omega (arith, c.price.ensures, price-within c.args.table.now c.requires.0.setting.is-table c.loop-e.e there)
 
 -- The node in hand, after the moves before e.
-held : (c : goal.In-loop-e) → Holding c.args.table.now c.args.space c.args.from c.loop-e.words c.requires.0.goal
+held : (c : In-loop-e) → Holding c.args.table.now c.args.space c.args.from c.loop-e.words c.requires.0.goal
 held c =
     hold-again c.requires.0.holding (c.loop-e.invariant.2 c.requires.0.goal c.requires.0.holding)
 
 pub overflow_add-charge : goal.overflow_add-charge
 overflow_add-charge c =
+    let z = c.requires.0 in
     let sum =
-    move-sum c.requires.0.setting c.args.from c.requires.0.corner _ (stand c.before.before.before.before.before.before) _ c.loop-e-test.true (here c.before.before.before.before.before.before) c.requires.0.goal _ (held c.before.before.before.before.before.before)
-    c.price.result c.price.ensures in
+    move-sum z.setting c.args.from z.corner _ c.halves-halves.ensures _ c.loop-e-test.true c.loop-e.invariant.0 z.goal _
+    (held (goal.at.overflow_add-charge c).In-loop-e) c.price.result c.price.ensures in
     omega (arith, sum)
 
 pub relax-requires : goal.relax-requires
 relax-requires c =
-    move-ready c.requires.0.setting c.args.from c.requires.0.corner _ (stand c.before.before.before.before.before.before.before) _ c.loop-e-test.true (here c.before.before.before.before.before.before.before) c.requires.0.goal _ (held c.before.before.before.before.before.before.before)
-    c.requires.1 _ _ (node c.before.before.before) c.price.ensures
+    let z = c.requires.0 in
+    let p = goal.at.relax-requires c in
+    move-ready z.setting c.args.from z.corner _ c.halves-halves.ensures _ c.loop-e-test.true c.loop-e.invariant.0 z.goal _
+    (held p.In-loop-e) c.requires.1 _ _ (node p.After-image) c.price.ensures
 
 pub after-requires : goal.after-requires
 after-requires c =
@@ -132,18 +140,20 @@ after-requires c =
 
 pub next_move-e-requires-in-loop-e : goal.next_move-e-requires-in-loop-e
 next_move-e-requires-in-loop-e c =
-    (_, next-ready c.requires.0.setting.is-rules ((here c.before.before.before.before.before.before.before.before.before.before.before).there c.loop-e-test.true) c.after.ensures)
+    (_, next-ready c.requires.0.setting.is-rules (c.loop-e.invariant.0.there c.loop-e-test.true) c.after.ensures)
 
 pub loop-e-smaller : goal.loop-e-smaller
-loop-e-smaller c = omega (arith, (next c).low)
+loop-e-smaller c = omega (arith, (next (goal.at.loop-e-smaller c).After-next_move-e-in-loop-e).low)
 
 pub loop-e-preserved : goal.loop-e-preserved
 loop-e-preserved c =
-    (
-      (next c).move,
+    let z = c.requires.0 in
+    let p = goal.at.loop-e-preserved c in
+    let f = next p.After-next_move-e-in-loop-e in (
+      f.move,
       c.image.ensures.images,
-      moves_more c.requires.0.setting c.args.from c.requires.0.corner _ (stand c.before.before.before.before.before.before.before.before.before.before.before.before) _ c.loop-e-test.true (here c.before.before.before.before.before.before.before.before.before.before.before.before) c.requires.1 c.args.words.now _ _
-          c.loop-e.invariant.2 _ _ (node c.before.before.before.before.before.before.before.before) c.price.ensures c.relax.ensures _ (next c),
+      moves_more z.setting c.args.from z.corner _ c.halves-halves.ensures _ c.loop-e-test.true c.loop-e.invariant.0
+          c.requires.1 c.args.words.now _ _ c.loop-e.invariant.2 _ _ (node p.After-image) c.price.ensures c.relax.ensures _ f,
     )
 
 pub shape_of-words : goal.shape_of-words

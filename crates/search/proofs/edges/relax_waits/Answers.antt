@@ -3,8 +3,6 @@
 use mathlib.Core.Path.{sym, ◌∙◌}
 use mathlib.Core.Bool.{true≢false}
 use native.Mathlib.Omega.{arith}
-use borrow.Author.Rules.{rules}
-use borrow.Author.Tests.{not-true, not-false}
 use Rattle.space.specs.Space.{place_at}
 use Rattle.space.proofs.Settings.{place-mode}
 use Rattle.space.proofs.Delayed.{delay-ready, delayed-valid, delayed-ready, halves-ready}
@@ -34,30 +32,30 @@ relax_linger-requires c = waits-ready c.requires.0 c.requires.1 (looked c)
 
 pub halves-requires : goal.halves-requires
 halves-requires c =
-    halves-ready c.requires.0.setting c.requires.0.corner _ (looked c.before.before.before).is
+    halves-ready c.requires.0.setting c.requires.0.corner _ (looked c.before.before.before.before).is
 
 pub all_inside-requires : goal.all_inside-requires
 all_inside-requires c =
-    let s = start_of c in
-    let few = place-mode s.args.table.now s.requires.0.setting.is-table (place_at s.args.from.at) s.requires.0.corner.place in
-    (s.requires.0.setting.is-rules.size, omega (arith, few))
+    let few = place-mode c.args.table.now c.requires.0.setting.is-table (place_at c.args.from.at) c.requires.0.corner.place in
+    (c.requires.0.setting.is-rules.size, omega (arith, few))
 
 pub returns-then-not-all_inside : goal.returns-then-not-all_inside
 returns-then-not-all_inside c =
-    waits-unmet (start_of c).requires.0 (start_of c).requires.1 (looked c.before.before.before.before.before.before) c.relax_linger.ensures
+    waits-unmet c.requires.0 c.requires.1 (looked c.before.before.before.before.before.before.before) c.relax_linger.ensures
     c.halves.ensures (λ met. true≢false (sym (c.all_inside.ensures.1 met) ∙ c.if-not-all_inside.true))
 
 pub node_of-to-requires : goal.node_of-to-requires
 node_of-to-requires c =
-    delayed-ready c.requires.0.setting c.requires.0.corner _ (looked c.before.before.before.before.before.before).is
+    delayed-ready c.requires.0.setting c.requires.0.corner _ (looked c.before.before.before.before.before.before.before).is
 
 pub relax_delay-requires : goal.relax_delay-requires
 relax_delay-requires c =
-    delays-ready (start_of c).requires.0 (start_of c).requires.1 (looked c.before.before.before.before.before.before.before.before) c.relax_linger.ensures
+    delays-ready c.requires.0 c.requires.1 (looked c.before.before.before.before.before.before.before.before) c.relax_linger.ensures
     c.halves.ensures (c.all_inside.ensures.0 (c.if-not-all_inside.false)) c.node_of-to.result c.node_of-to.ensures
 
 pub returns : goal.returns
 returns c =
-    waits-done (start_of c).requires.0 (start_of c).requires.1 (looked c.before.before.before.before.before.before.before.before.before.before.before) c.relax_linger.ensures
+    waits-done c.requires.0 c.requires.1
+    (looked c.before.before.before.before.before.before.before.before.before.before.before.before) c.relax_linger.ensures
     c.halves.ensures (c.all_inside.ensures.0 (c.if-not-all_inside.false)) c.node_of-to.result c.node_of-to.ensures
     c.relax_delay.ensures

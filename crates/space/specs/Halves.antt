@@ -7,10 +7,10 @@ use Rattle.std.proofs.Math.Decide.{dec_lt}
 use Rattle.semantics.specs.Region.{PricedRegion, WellFormed, high, top, reset_all}
 use Rattle.semantics.specs.Run.{among}
 use Rattle.semantics.specs.Regions.Windows.{half}
-use Rattle.semantics.specs.Regions.WellFormed.{reset_all-well-formed}
+use Rattle.semantics.proofs.Regions.WellFormed.{reset_all-well-formed}
 use Rattle.semantics.specs.Corners.Edges.{reset_all_corner}
-use Rattle.semantics.specs.Bounds.Reset.{ResetTo}
-use Rattle.semantics.specs.Bounds.Resets.{resets-to}
+use Rattle.semantics.proofs.Bounds.Reset.{ResetTo}
+use Rattle.semantics.proofs.Bounds.Resets.{resets-to}
 
 -- On a whole minute, or between two: groups that are both 0, or both not, give the same.
 high-alike : (w g h : ℕ) → (g ≡ 0 → h ≡ 0) → (h ≡ 0 → g ≡ 0) → high w g ≡ high w h

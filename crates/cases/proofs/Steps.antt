@@ -9,7 +9,7 @@ use native.Mathlib.Omega.{arith}
 use lib.ListN.{length, get_or, take, replicate, get_or-eq_default}
 use lib.Seq.{length-take-le}
 use Rattle.semantics.specs.Region.{PricedRegion, within}
-use Rattle.semantics.specs.Nodes.Regions.{within-whole}
+use Rattle.semantics.proofs.Nodes.Regions.{within-whole}
 use Rattle.table.specs.Held.{automaton_of, IsTable}
 use Rattle.table.specs.Theorems.Holding.{length-pad}
 use Rattle.table.specs.Theorems.Access.{counts, mode-count, timer-count, move-count}

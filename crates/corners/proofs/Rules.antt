@@ -14,7 +14,8 @@ use Rattle.semantics.specs.Corners.Corner.{Corner, corners, same_list, corner_at
 use Rattle.semantics.specs.Regions.Compare.{and-true-iff}
 use Rattle.semantics.specs.Corners.Lists.{length-count_from, get_or-count_from}
 use Rattle.semantics.specs.Corners.Every.{every, every-mem, every_from, every-at}
-use Rattle.semantics.specs.Corners.Number.{same_list-eq, corner_at-listed}
+use Rattle.semantics.specs.Corners.Number.{same_list-eq}
+use Rattle.semantics.proofs.Corners.Number.{corner_at-listed}
 use Rattle.semantics.specs.Graph.CornerGraph.{highest}
 use Rattle.table.specs.Held.{pad}
 use Rattle.corners.specs.declared.tables.CornerAt.{CornerAt}

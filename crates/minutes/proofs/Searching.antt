@@ -11,7 +11,7 @@ use Rattle.semantics.specs.NodeCount.{cell_count}
 use Rattle.semantics.specs.Timetable.{state_count}
 use Rattle.semantics.specs.Graph.MinuteGraph.{minute_graph}
 use Rattle.semantics.specs.Graph.Path.{infinity}
-use Rattle.semantics.specs.Paths.Near.{words-near}
+use Rattle.semantics.proofs.Paths.Near.{words-near}
 use Rattle.semantics.specs.Timetables.Edges.{minute-closed}
 use Rattle.table.specs.Fields.{most_price}
 use Rattle.table.specs.Held.{automaton_of, IsTable}

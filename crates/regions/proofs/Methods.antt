@@ -10,7 +10,8 @@ use lib.ListN.{length, get_or, drop, set, length-replicate, length-set}
 use Rattle.semantics.specs.Region.{PricedRegion, count, top, risen, merge, alone, no_zero, start, leave, arrive, delay, linger, reset, charge}
 use Rattle.semantics.specs.Regions.Renumber.{wrapped, wrapped-other, lowered, lowered-low}
 use Rattle.semantics.specs.Regions.Cases.{delay-arrive, delay-leave, lingered, linger-empty, linger-same, alone-true, reset_alone, reset_joined, reset-alone, reset-joined}
-use Rattle.semantics.specs.Regions.Lengths.{leave-top, arrive-timers, arrive-top, charge-prices, merged-in, length-merge}
+use Rattle.semantics.specs.Regions.Lengths.{leave-top, arrive-timers, charge-prices, merged-in, length-merge}
+use Rattle.semantics.proofs.Regions.Lengths.{arrive-top}
 use Rattle.regions.specs.declared.Region.{Region}
 use Rattle.arrays.specs.Arrays.{map_to}
 use Rattle.regions.specs.Held.{pack}

@@ -9,7 +9,7 @@ use native.Mathlib.Omega.{arith}
 use borrow.Author.Tests.{eq-eqb, ne_eqb}
 use lib.ListN.{drop}
 use Rattle.semantics.specs.Region.{PricedRegion, reset, reset_all}
-use Rattle.semantics.specs.Regions.Commute.{resets-rearranged}
+use Rattle.semantics.proofs.Regions.Commute.{resets-rearranged}
 use Rattle.table.specs.Meaning.{stands, named, named_timers}
 use Rattle.regions.specs.declared.Region.{Region}
 use Rattle.regions.specs.Held.{most_timers, pack, view, Valid}

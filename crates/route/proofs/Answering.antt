@@ -14,9 +14,9 @@ use Rattle.semantics.specs.Graph.Path.{unreached, reached, infinity, table}
 use Rattle.semantics.specs.NodeCount.{node_count}
 use Rattle.semantics.specs.Graph.Distance.{distance}
 use Rattle.semantics.specs.Answer.{Answer as Best, route, answer}
-use Rattle.semantics.specs.Paths.Near.{near-best}
-use Rattle.semantics.specs.Answers.Table.{unreached-answer, greedy-answer, greedy-steps}
-use Rattle.semantics.specs.Answers.Forward.{into-least}
+use Rattle.semantics.proofs.Paths.Near.{near-best}
+use Rattle.semantics.proofs.Answers.Table.{unreached-answer, greedy-answer, greedy-steps}
+use Rattle.semantics.proofs.Answers.Forward.{into-least}
 use Rattle.table.specs.Fields.{most_price}
 use Rattle.table.specs.Held.{automaton_of}
 use Rattle.table.specs.Theorems.Access.{table-proper}

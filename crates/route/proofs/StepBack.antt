@@ -15,8 +15,8 @@ use lib.Seq.{take-suc}
 use Rattle.semantics.specs.Automaton.{Automaton}
 use Rattle.semantics.specs.NodeCount.{node_count}
 use Rattle.semantics.specs.Graph.Path.{Entry, unreached, infinity, charge_at, steps_at}
-use Rattle.semantics.specs.Answers.Marks.{LeavesMarked}
-use Rattle.semantics.specs.Answers.Trail.{Trail, trail-marked, trail-deep, trail-back}
+use Rattle.semantics.proofs.Answers.Marks.{LeavesMarked}
+use Rattle.semantics.proofs.Answers.Trail.{Trail, trail-marked, trail-deep, trail-back}
 use Rattle.table.specs.Held.{automaton_of}
 use Rattle.space.specs.declared.Space.{Space}
 use Rattle.steps.specs.declared.Stand.{Stand}

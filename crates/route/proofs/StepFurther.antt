@@ -18,7 +18,7 @@ use Rattle.semantics.specs.NodeCount.{node_count}
 use Rattle.semantics.specs.Graph.Path.{reached, charge_at, steps_at}
 use Rattle.semantics.specs.Graph.CornerGraph.{number_of}
 use Rattle.semantics.specs.Answers.Marks.{Led}
-use Rattle.semantics.specs.Answers.Trail.{Trail, trail-few, trail-marked, trail-entry, trail-further}
+use Rattle.semantics.proofs.Answers.Trail.{Trail, trail-few, trail-marked, trail-entry, trail-further}
 use Rattle.table.specs.Held.{automaton_of}
 use Rattle.space.specs.declared.Space.{Space}
 use Rattle.steps.specs.declared.Stand.{Stand}

@@ -9,7 +9,7 @@ use native.Mathlib.Omega.{arith}
 use lib.ListN.{length, get_or, take, drop}
 use Rattle.semantics.specs.Order.{Cost, cost}
 use Rattle.semantics.specs.Graph.Path.{Entry, unreached, reached, infinity, charge_at, steps_at}
-use Rattle.semantics.specs.Answers.Trail.{Trail}
+use Rattle.semantics.proofs.Answers.Trail.{Trail}
 use Rattle.table.specs.Held.{automaton_of}
 use Rattle.space.specs.declared.Space.{Space}
 use Rattle.steps.specs.declared.Stand.{Stand}

@@ -21,12 +21,13 @@ use Rattle.semantics.specs.Corners.Lists.{length-count_from}
 use Rattle.semantics.specs.Graph.CornerGraph.{highest, node_place, number_of, corner_graph}
 use Rattle.semantics.specs.Paths.Least.{least-steps, least-charge}
 use Rattle.semantics.specs.Paths.Words.{table-unreached, table-reached}
-use Rattle.semantics.specs.Answers.Places.{IsPlace, corner-top, number-below, place-alike}
-use Rattle.semantics.specs.Answers.Graph.{number-alike, graph-nodes, graph-closed, graph-weights}
-use Rattle.semantics.specs.Answers.System.{begin-inside}
+use Rattle.semantics.specs.Answers.Places.{IsPlace, corner-top}
+use Rattle.semantics.proofs.Answers.Places.{number-below, place-alike}
+use Rattle.semantics.proofs.Answers.Graph.{number-alike, graph-nodes, graph-closed, graph-weights}
+use Rattle.semantics.proofs.Answers.System.{begin-inside}
 use Rattle.semantics.specs.Answers.Marks.{Led}
-use Rattle.semantics.specs.Answers.Forward.{into-least}
-use Rattle.semantics.specs.Answers.Trail.{Trail, trail-begins, trail-entry, trail-node, trail-among, trail-ends, trail-tried}
+use Rattle.semantics.proofs.Answers.Forward.{into-least}
+use Rattle.semantics.proofs.Answers.Trail.{Trail, trail-begins, trail-entry, trail-node, trail-among, trail-ends, trail-tried}
 use Rattle.table.specs.Fields.{most_price}
 use Rattle.table.specs.Held.{automaton_of}
 use Rattle.table.specs.Theorems.Access.{table-proper, amounts-within}

@@ -9,9 +9,9 @@ use Rattle.semantics.specs.Automaton.{Automaton}
 use Rattle.semantics.specs.NodeCount.{node_count}
 use Rattle.semantics.specs.Order.{Cost}
 use Rattle.semantics.specs.Answer.{Answer as Best, no_route, route, answer}
-use Rattle.semantics.specs.Answers.Best.{answer-charge}
-use Rattle.semantics.specs.Answers.Forward.{from-least}
-use Rattle.semantics.specs.Answers.Graph.{graph-nodes, graph-weights}
+use Rattle.semantics.proofs.Answers.Best.{answer-charge}
+use Rattle.semantics.proofs.Answers.Forward.{from-least}
+use Rattle.semantics.proofs.Answers.Graph.{graph-nodes, graph-weights}
 use Rattle.semantics.specs.Graph.CornerGraph.{PricesWithin, start_node, corner_graph}
 use Rattle.semantics.specs.Graph.Distance.{distance}
 use Rattle.semantics.specs.Graph.Near.{turned}

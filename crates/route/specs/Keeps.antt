@@ -10,8 +10,8 @@ use Rattle.semantics.specs.Chain.{moves_of}
 use Rattle.semantics.specs.Order.{cost, Best}
 use Rattle.semantics.specs.Demand.{AtLeast, Approached, NoRun}
 use Rattle.semantics.specs.Answer.{Comes, NoChain, Answer as Found, no_route, route, answer}
-use Rattle.semantics.specs.Answers.Best.{answer-best}
-use Rattle.semantics.specs.Answers.Demand.{answer-no-chain, answer-no-run, answer-at-least, answer-approached}
+use Rattle.semantics.proofs.Answers.Best.{answer-best}
+use Rattle.semantics.proofs.Answers.Demand.{answer-no-chain, answer-no-run, answer-at-least, answer-approached}
 use Rattle.table.specs.Fields.{Fields}
 use Rattle.table.specs.Meaning.{automaton}
 use Rattle.reader.specs.Read.{Judgement, accepted, rejected, read}

@@ -11,7 +11,7 @@ use Rattle.semantics.specs.Automata.Proper.{Proper}
 use Rattle.semantics.specs.Automaton.{Automaton}
 use Rattle.semantics.specs.NodeCount.{node_count}
 use Rattle.semantics.specs.Answer.{Answer as Best, no_route, route, answer}
-use Rattle.semantics.specs.Answers.Best.{answer-steps}
+use Rattle.semantics.proofs.Answers.Best.{answer-steps}
 use Rattle.table.specs.Meaning.{automaton}
 use Rattle.reader.specs.Read.{Judgement, accepted, rejected, read}
 use Rattle.reader.specs.Theorems.Proper.{accepted-proper}

@@ -12,7 +12,7 @@ use Rattle.semantics.specs.Automaton.{start_holds}
 use Rattle.semantics.specs.NodeCount.{node_count}
 use Rattle.semantics.specs.Order.{cost, Best}
 use Rattle.semantics.specs.Answer.{Comes, Answer as Found, no_route, route, answer}
-use Rattle.semantics.specs.Answers.Best.{answer-best}
+use Rattle.semantics.proofs.Answers.Best.{answer-best}
 use Rattle.reader.specs.Parser.{Outcome as Parsed, refused, took, run}
 use Rattle.table.specs.Fields.{Fields}
 use Rattle.reader.specs.Format.{table}

@@ -9,7 +9,7 @@ use native.Mathlib.Omega.{arith}
 use Rattle.semantics.specs.Automaton.{move_at}
 use Rattle.semantics.specs.Corners.Edges.{reset_all_corner}
 use Rattle.semantics.specs.Graph.Path.{Edge, Leaves, infinity}
-use Rattle.semantics.specs.Answers.Moving.{moved_to, MoveEdge, edge-move, move-edge}
+use Rattle.semantics.proofs.Answers.Moving.{moved_to, MoveEdge, edge-move, move-edge}
 use Rattle.table.specs.Meaning.{named_timers}
 use Rattle.table.specs.Held.{automaton_of, fields_of, move_fields_at}
 use Rattle.regions.specs.Held.{view}

@@ -11,7 +11,7 @@ use Rattle.semantics.specs.Graph.Path.{Graph, Closed, WeightsWithin, Entry, infi
 use Rattle.semantics.specs.Graph.Distance.{distance, entry_words}
 use Rattle.semantics.specs.Graph.Near.{turned, near, near_words}
 use Rattle.semantics.specs.Paths.Found.{words_at, words_of, words-gathered}
-use Rattle.semantics.specs.Paths.Near.{found-best, found-near}
+use Rattle.semantics.proofs.Paths.Near.{found-best, found-near}
 use Rattle.regions.specs.Nodes.{most_nodes}
 use Rattle.near.specs.declared.Cost.{Cost as CostHeld}
 use Rattle.near.specs.Near.{cost_entry}

@@ -8,7 +8,7 @@ use native.Mathlib.Omega.{arith}
 use lib.ListN.{length, drop}
 use Rattle.semantics.specs.NodeCount.{node_count}
 use Rattle.semantics.specs.Graph.Near.{near_words}
-use Rattle.semantics.specs.Answers.Graph.{graph-nodes}
+use Rattle.semantics.proofs.Answers.Graph.{graph-nodes}
 use Rattle.table.specs.Fields.{most_price}
 use Rattle.table.specs.Held.{automaton_of, IsTable}
 use Rattle.rules.specs.Rules.{IsRules}

@@ -14,7 +14,7 @@ use Rattle.semantics.specs.Region.{top, no_zero, delay, within, meets_all}
 use Rattle.semantics.specs.Nodes.Node.{node_of, node_number}
 use Rattle.semantics.specs.Graph.Path.{Edge, Leaves}
 use Rattle.semantics.specs.Answers.Waiting.{delayed_to}
-use Rattle.semantics.specs.Answers.WaitingNodes.{wait-label}
+use Rattle.semantics.proofs.Answers.WaitingNodes.{wait-label}
 use Rattle.table.specs.Held.{automaton_of}
 use Rattle.rules.specs.Rules.{InRow}
 use Rattle.regions.specs.declared.Region.{Region}

@@ -7,7 +7,6 @@ pub mod Edges
 pub mod Lists
 pub mod Piece
 pub mod Every
-pub mod Count
 pub mod Raise
 pub mod Blocks
 pub mod WeakOrders

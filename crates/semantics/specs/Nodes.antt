@@ -1,8 +1,6 @@
--- The numbers of nodes: each node has its own number below E, and each number below E its node.
+-- The numbers of nodes.
 -- What nodes are and how they are numbered.
 pub mod Node
 -- Theorems:
 pub mod Radix
 pub mod Cells
-pub mod Number
-pub mod Regions

@@ -1,4 +1,4 @@
--- Shortest paths in a graph: an attained and settled table gives exactly the least costs, and the best route is read off it label by label.
+-- Shortest paths in a graph: what paths and tables of costs are made of, and the best route that is read off a table label by label.
 -- Paths and their costs:
 pub mod Pigeonhole
 pub mod Loops
@@ -24,11 +24,7 @@ pub mod Near
 pub mod Settling
 pub mod Priced
 -- The distance as a function.
-pub mod UpTo
 pub mod Computed
 pub mod Found
 -- Paths by their labels, and the walk that finds the first of them of least cost.
 pub mod Labelled
-pub mod Walk
-pub mod WalkOn
-pub mod WalkEnd

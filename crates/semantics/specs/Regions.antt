@@ -5,10 +5,5 @@ pub mod Renumber
 pub mod Cases
 pub mod Lengths
 pub mod Groups
-pub mod WellFormed
-pub mod Absent
 pub mod Compare
-pub mod Meets
-pub mod Points
 pub mod Windows
-pub mod Commute

@@ -14,11 +14,11 @@ use Rattle.semantics.specs.Chain.{Place}
 use Rattle.semantics.specs.Nodes.Node.{node_of, node_number}
 use Rattle.semantics.specs.Graph.CornerGraph.{number_of}
 use Rattle.semantics.specs.Regions.Lengths.{delay-timers}
-use Rattle.semantics.specs.Regions.WellFormed.{delay-well-formed}
+use Rattle.semantics.proofs.Regions.WellFormed.{delay-well-formed}
 use Rattle.semantics.specs.Regions.Windows.{half}
 use Rattle.semantics.specs.Answers.Places.{IsPlace}
 use Rattle.semantics.specs.Answers.Waiting.{delayed_to}
-use Rattle.semantics.specs.Answers.WaitingNodes.{empty-fewer, delayed-place}
+use Rattle.semantics.proofs.Answers.WaitingNodes.{empty-fewer, delayed-place}
 use Rattle.table.specs.Held.{automaton_of}
 use Rattle.rules.specs.Rules.{InRow}
 use Rattle.rules.specs.Laws.Windows.{mode-window}

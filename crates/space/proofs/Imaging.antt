@@ -13,9 +13,9 @@ use Rattle.semantics.specs.Chain.{Place}
 use Rattle.semantics.specs.Graph.CornerGraph.{number_of}
 use Rattle.semantics.specs.Corners.Edges.{reset_all_corner}
 use Rattle.semantics.specs.Bounds.Prices.{price}
-use Rattle.semantics.specs.Bounds.Moved.{moved-to}
+use Rattle.semantics.proofs.Bounds.Moved.{moved-to}
 use Rattle.semantics.specs.Answers.Places.{IsPlace}
-use Rattle.semantics.specs.Answers.Moving.{moved_to, moved-place, last-price, first-price}
+use Rattle.semantics.proofs.Answers.Moving.{moved_to, moved-place, last-price, first-price}
 use Rattle.table.specs.Meaning.{named_timers}
 use Rattle.table.specs.Held.{automaton_of, fields_of, move_fields_at, pad}
 use Rattle.regions.specs.declared.Region.{Region}

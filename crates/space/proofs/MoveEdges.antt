@@ -18,11 +18,11 @@ use Rattle.semantics.specs.Nodes.Node.{cell_number, node_of, node_number}
 use Rattle.semantics.specs.Chain.{Place}
 use Rattle.semantics.specs.Corners.Edges.{reset_all_corner}
 use Rattle.semantics.specs.Regions.Windows.{half}
-use Rattle.semantics.specs.Bounds.Stays.{resets-in}
+use Rattle.semantics.proofs.Bounds.Stays.{resets-in}
 use Rattle.semantics.specs.Graph.Path.{Edge}
 use Rattle.semantics.specs.Graph.CornerGraph.{number_of}
 use Rattle.semantics.specs.Answers.Places.{IsPlace}
-use Rattle.semantics.specs.Answers.Moving.{moved_to, moved-place, MoveEdge}
+use Rattle.semantics.proofs.Answers.Moving.{moved_to, moved-place, MoveEdge}
 use Rattle.table.specs.Held.{automaton_of, IsTable}
 use Rattle.table.specs.Theorems.Access.{table-proper}
 use Rattle.rules.specs.Rules.{target_conditions, IsRules}

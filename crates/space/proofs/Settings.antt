@@ -17,8 +17,9 @@ use Rattle.semantics.specs.Chain.{Place}
 use Rattle.semantics.specs.Graph.Path.{Edge, Leaves}
 use Rattle.semantics.specs.Graph.CornerGraph.{number_of}
 use Rattle.semantics.specs.Regions.Windows.{half, free}
-use Rattle.semantics.specs.Answers.Places.{IsPlace, corner-top, number-below}
-use Rattle.semantics.specs.Answers.Moving.{number-row}
+use Rattle.semantics.specs.Answers.Places.{IsPlace, corner-top}
+use Rattle.semantics.proofs.Answers.Places.{number-below}
+use Rattle.semantics.proofs.Answers.Moving.{number-row}
 use Rattle.semantics.specs.Answers.Waiting.{delayed_to}
 use Rattle.table.specs.Held.{pad, automaton_of, IsTable}
 use Rattle.table.specs.Theorems.Access.{table-proper, get_or-all, get_or-pad}

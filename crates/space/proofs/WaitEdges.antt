@@ -16,12 +16,14 @@ use Rattle.semantics.specs.Chain.{Place}
 use Rattle.semantics.specs.Graph.Path.{Edge, Leaves}
 use Rattle.semantics.specs.Graph.CornerGraph.{number_of}
 use Rattle.semantics.specs.Regions.Cases.{zero-cases, delay-arrive, delay-leave}
-use Rattle.semantics.specs.Regions.Lengths.{leave-top, arrive-top}
+use Rattle.semantics.specs.Regions.Lengths.{leave-top}
+use Rattle.semantics.proofs.Regions.Lengths.{arrive-top}
 use Rattle.semantics.specs.Regions.Groups.{top_pos}
 use Rattle.semantics.specs.Bounds.Prices.{price, leave-price, leave-last, arrive-price}
 use Rattle.semantics.specs.Bounds.Steps.{rate_at}
-use Rattle.semantics.specs.Answers.Waiting.{Indexed, delayed_to, DelayEdge, edge-delay, delay-edge}
-use Rattle.semantics.specs.Answers.WaitingNodes.{edge-linger, linger-edge, delayed-place}
+use Rattle.semantics.specs.Answers.Waiting.{Indexed, delayed_to}
+use Rattle.semantics.proofs.Answers.Waiting.{DelayEdge, edge-delay, delay-edge}
+use Rattle.semantics.proofs.Answers.WaitingNodes.{edge-linger, linger-edge, delayed-place}
 use Rattle.table.specs.Held.{automaton_of}
 use Rattle.regions.specs.declared.nodes.NodeRegion.{NodeRegion}
 use Rattle.regions.specs.Held.{view}

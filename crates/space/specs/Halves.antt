@@ -7,10 +7,10 @@ use Rattle.std.proofs.Math.Decide.{dec_lt}
 use Rattle.semantics.specs.Region.{PricedRegion, WellFormed, high, top, reset_all}
 use Rattle.semantics.specs.Run.{among}
 use Rattle.semantics.specs.Regions.Windows.{half}
-use Rattle.semantics.specs.Regions.WellFormed.{reset_all-well-formed}
+use Rattle.semantics.proofs.Regions.WellFormed.{reset_all-well-formed}
 use Rattle.semantics.specs.Corners.Edges.{reset_all_corner}
-use Rattle.semantics.specs.Bounds.Reset.{ResetTo}
-use Rattle.semantics.specs.Bounds.Resets.{resets-to}
+use Rattle.semantics.proofs.Bounds.Reset.{ResetTo}
+use Rattle.semantics.proofs.Bounds.Resets.{resets-to}
 
 -- On a whole minute, or between two: groups that are both 0, or both not, give the same.
 high-alike : (w g h : ℕ) → (g ≡ 0 → h ≡ 0) → (h ≡ 0 → g ≡ 0) → high w g ≡ high w h
@@ -39,8 +39,8 @@ module _ (xs : List ℕ) (r : PricedRegion) (w : WellFormed r) (named : (x : ℕ
           (ap (λ (k : ℕ). get_or r.whole y 0 + k) (high-alike (get_or r.whole y 0) g (get_or r.group y 0) (λ q. zero-kept q) (λ q. zero-was q few (dec_lt 0 g))))
         where
           zero-kept : get_or s.group y 0 ≡ 0 → get_or r.group y 0 ≡ 0
-          zero-kept q = sym (to.old-group y h e) ∙ ap to.old q ∙ to.ground
+          zero-kept q = sym (to.old-group y h e) ∙ ap to.old q ∙ to.grounded
 
           zero-was : get_or r.group y 0 ≡ 0 → get_or s.group y 0 ≤ top (reset_all xs r) → Dec (0 < get_or s.group y 0) → get_or s.group y 0 ≡ 0
           zero-was q few (no n) = omega arith
-          zero-was q few (yes p) = absurd (omega (arith, to.rising 0 (get_or s.group y 0) p few, to.ground, to.old-group y h e))
+          zero-was q few (yes p) = absurd (omega (arith, to.rising 0 (get_or s.group y 0) p few, to.grounded, to.old-group y h e))

@@ -14,9 +14,9 @@ use Rattle.semantics.specs.Nodes.Node.{node_of, node_number}
 use Rattle.semantics.specs.Graph.Path.{Entry}
 use Rattle.semantics.specs.Graph.CornerGraph.{number_of}
 use Rattle.semantics.specs.Answers.Places.{IsPlace}
-use Rattle.semantics.specs.Answers.Moving.{moved_to, moved-place}
+use Rattle.semantics.proofs.Answers.Moving.{moved_to, moved-place}
 use Rattle.semantics.specs.Answers.Marks.{Led}
-use Rattle.semantics.specs.Answers.Led.{led-move, moved-number}
+use Rattle.semantics.proofs.Answers.Led.{led-move, moved-number}
 use Rattle.table.specs.Fields.{most_price}
 use Rattle.table.specs.Held.{automaton_of}
 use Rattle.table.specs.Theorems.Access.{price-within}

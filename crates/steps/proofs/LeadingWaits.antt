@@ -15,13 +15,15 @@ use Rattle.semantics.specs.Chain.{Place, linger_step, step}
 use Rattle.semantics.specs.Graph.Path.{Entry}
 use Rattle.semantics.specs.Graph.CornerGraph.{number_of}
 use Rattle.semantics.specs.Bounds.Prices.{price}
-use Rattle.semantics.specs.Bounds.Stays.{Admits}
-use Rattle.semantics.specs.Bounds.Steps.{rate_at, delayed, step-view, view-step}
-use Rattle.semantics.specs.Bounds.Shapes.{shape-delay, shape-admits}
+use Rattle.semantics.proofs.Bounds.Stays.{Admits}
+use Rattle.semantics.specs.Bounds.Steps.{rate_at}
+use Rattle.semantics.proofs.Bounds.Steps.{delayed, step-view, view-step}
+use Rattle.semantics.proofs.Bounds.Shapes.{shape-delay, shape-admits}
 use Rattle.semantics.specs.Answers.Places.{IsPlace, corner-top}
-use Rattle.semantics.specs.Answers.Waiting.{delayed_to, delay-comes, after, after_same, after-step}
+use Rattle.semantics.specs.Answers.Waiting.{delayed_to}
+use Rattle.semantics.proofs.Answers.Waiting.{delay-comes, after, after_same, after-step}
 use Rattle.semantics.specs.Answers.Marks.{Grows, Led}
-use Rattle.semantics.specs.Answers.LedWaits.{delayed-number, lingered-number, led-delay, led-linger, led-idle}
+use Rattle.semantics.proofs.Answers.LedWaits.{delayed-number, lingered-number, led-delay, led-linger, led-idle}
 use Rattle.table.specs.Fields.{most_price}
 use Rattle.table.specs.Held.{automaton_of}
 use Rattle.table.specs.Theorems.Access.{rate-within}

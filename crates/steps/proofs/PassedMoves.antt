@@ -10,9 +10,9 @@ use native.Mathlib.Omega.{arith}
 use Rattle.semantics.specs.Automaton.{Automaton, mode_at, move_at}
 use Rattle.semantics.specs.Chain.{Place, step}
 use Rattle.semantics.specs.Graph.Path.{Entry}
-use Rattle.semantics.specs.Bounds.Steps.{moved_by, moves, view-step}
-use Rattle.semantics.specs.Bounds.Shapes.{shape-charge, shape-meets_all}
-use Rattle.semantics.specs.Answers.Moving.{moved_to, edge-move}
+use Rattle.semantics.proofs.Bounds.Steps.{moved_by, moves, view-step}
+use Rattle.semantics.proofs.Bounds.Shapes.{shape-charge, shape-meets_all}
+use Rattle.semantics.proofs.Answers.Moving.{moved_to, edge-move}
 use Rattle.semantics.specs.Answers.Marks.{Led}
 use Rattle.table.specs.Meaning.{named_timers}
 use Rattle.table.specs.Held.{automaton_of, fields_of, move_fields_at}

@@ -17,7 +17,7 @@ use Rattle.semantics.specs.Graph.Path.{Entry, charge_at}
 use Rattle.semantics.specs.Graph.CornerGraph.{number_of}
 use Rattle.semantics.specs.Answers.Places.{IsPlace, corner-top}
 use Rattle.semantics.specs.Answers.Marks.{Grows, Led}
-use Rattle.semantics.specs.Answers.Led.{grows-iff}
+use Rattle.semantics.proofs.Answers.Led.{grows-iff}
 use Rattle.table.specs.Fields.{most_price}
 use Rattle.table.specs.Held.{automaton_of}
 use Rattle.rules.specs.Rules.{IsRules}

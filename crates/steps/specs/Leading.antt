@@ -9,7 +9,7 @@ use Rattle.semantics.specs.Graph.Path.{Entry, infinity, charge_at, steps_at}
 use Rattle.semantics.specs.Answers.Marks.{Led}
 use Rattle.table.specs.Fields.{most_price}
 use Rattle.table.specs.Held.{automaton_of, IsTable}
-use Rattle.rules.specs.Rules.{none, IsRules}
+use Rattle.rules.specs.Rules.{IsRules}
 use Rattle.regions.specs.declared.Region.{Region}
 use Rattle.regions.specs.declared.nodes.NodeRegion.{NodeRegion}
 use Rattle.regions.specs.Held.{view, Valid}

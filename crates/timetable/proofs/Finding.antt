@@ -20,12 +20,12 @@ use Rattle.semantics.specs.Graph.Distance.{distance}
 use Rattle.semantics.specs.Graph.MinuteGraph.{minute_graph, pair_of}
 use Rattle.semantics.specs.Paths.Cost.{cost-same, cost-antisymm}
 use Rattle.semantics.specs.Paths.Labelled.{labelled-length}
-use Rattle.semantics.specs.Paths.UpTo.{distance_least}
-use Rattle.semantics.specs.Paths.Walk.{no-best}
+use Rattle.semantics.proofs.Paths.UpTo.{distance_least}
+use Rattle.semantics.proofs.Paths.Walk.{no-best}
 use Rattle.semantics.specs.Timetables.States.{some-state}
 use Rattle.semantics.specs.Timetables.Edges.{minute-closed, label-bytes-length}
 use Rattle.semantics.specs.Timetables.Paths.{path-timetable, timetable-path}
-use Rattle.semantics.specs.Timetables.Best.{best-timetable, no-timetable, timetable-nothing}
+use Rattle.semantics.proofs.Timetables.Best.{best-timetable, no-timetable, timetable-nothing}
 use Rattle.table.specs.Held.{automaton_of, IsTable}
 use Rattle.table.specs.Theorems.Access.{table-proper}
 use Rattle.rules.specs.Rules.{IsRules}

@@ -11,8 +11,8 @@ use lib.Seq.{take-suc, take-length, length-take-le, get_or-set_same, get_or-set_
 use Rattle.semantics.specs.NodeCount.{node_count}
 use Rattle.semantics.specs.Graph.Path.{Target, unreached, infinity, charge_at, table}
 use Rattle.semantics.specs.Paths.Words.{table-unreached, reached-words}
-use Rattle.semantics.specs.Paths.Walk.{Walk}
-use Rattle.semantics.specs.Paths.WalkOn.{walk-deep, walk-back}
+use Rattle.semantics.proofs.Paths.Walk.{Walk}
+use Rattle.semantics.proofs.Paths.WalkOn.{walk-deep, walk-back}
 use Rattle.table.specs.Held.{automaton_of}
 use Rattle.states.specs.declared.States.{States}
 use Rattle.route.proofs.Live.{turns, turns-backtrack}

@@ -13,8 +13,8 @@ use lib.ListN.{length, get_or, take, set, length-append, length-set}
 use lib.Seq.{get_or-set_same, get_or-set_other, take-set-le, drop-set-lt}
 use Rattle.semantics.specs.NodeCount.{node_count}
 use Rattle.semantics.specs.Graph.Path.{Leaves, table}
-use Rattle.semantics.specs.Paths.Walk.{Tight, Walk, walk_same}
-use Rattle.semantics.specs.Paths.WalkOn.{walk-short, walk-further}
+use Rattle.semantics.proofs.Paths.Walk.{Tight, Walk, walk_same}
+use Rattle.semantics.proofs.Paths.WalkOn.{walk-short, walk-further}
 use Rattle.table.specs.Held.{automaton_of}
 use Rattle.states.specs.declared.States.{States}
 use Rattle.route.proofs.Live.{turns, turns-advance}

@@ -16,13 +16,13 @@ use Rattle.semantics.specs.Graph.Path.{Edge, Leaves, Target, WeightsWithin, reac
 use Rattle.semantics.specs.Graph.MinuteGraph.{minute_graph}
 use Rattle.semantics.specs.Paths.Least.{least-steps, least-charge}
 use Rattle.semantics.specs.Paths.Words.{table-holds, reached-words}
-use Rattle.semantics.specs.Paths.Walk.{Ground, Tight, Walk, start-least, walk_begins, walk-entry, walk-few}
-use Rattle.semantics.specs.Paths.WalkOn.{walk-tried}
-use Rattle.semantics.specs.Paths.WalkEnd.{walk_ends}
-use Rattle.semantics.specs.Answers.Led.{grows-iff}
+use Rattle.semantics.proofs.Paths.Walk.{Ground, Tight, Walk, start-least, walk_begins, walk-entry, walk-few}
+use Rattle.semantics.proofs.Paths.WalkOn.{walk-tried}
+use Rattle.semantics.proofs.Paths.WalkEnd.{walk_ends}
+use Rattle.semantics.proofs.Answers.Led.{grows-iff}
 use Rattle.semantics.specs.Timetables.States.{some-state}
 use Rattle.semantics.specs.Timetables.Edges.{label-bytes-length, pair-minutes, pair-few, edge_of, minute-closed, minute-weights, minute-labels}
-use Rattle.semantics.specs.Timetables.Best.{timetable-found}
+use Rattle.semantics.proofs.Timetables.Best.{timetable-found}
 use Rattle.table.specs.Fields.{most_price}
 use Rattle.table.specs.Held.{automaton_of}
 use Rattle.table.specs.Theorems.Access.{table-proper, amounts-within}

@@ -14,10 +14,10 @@ use Rattle.semantics.specs.Demand.{AtLeast, NoRun}
 use Rattle.semantics.specs.Answer.{Answer as Found, no_route, route, answer}
 use Rattle.semantics.specs.Closed.{closed_table}
 use Rattle.semantics.specs.Timetable.{Timetable as IsTimetable, timetable}
-use Rattle.semantics.specs.Answers.Best.{answer-best}
-use Rattle.semantics.specs.Answers.Demand.{answer-no-run, answer-at-least}
+use Rattle.semantics.proofs.Answers.Best.{answer-best}
+use Rattle.semantics.proofs.Answers.Demand.{answer-no-run, answer-at-least}
 use Rattle.semantics.specs.Timetables.Edges.{bytes-length}
-use Rattle.semantics.specs.Timetables.Best.{best-timetable, timetable-pairs}
+use Rattle.semantics.proofs.Timetables.Best.{best-timetable, timetable-pairs}
 use Rattle.table.specs.Fields.{Fields}
 use Rattle.table.specs.Meaning.{automaton}
 use Rattle.reader.specs.Read.{Judgement, accepted, rejected, read}

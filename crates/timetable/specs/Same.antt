@@ -10,8 +10,8 @@ use Rattle.semantics.specs.Answer.{Answer, no_route, route, answer}
 use Rattle.semantics.specs.Closed.{closed_table}
 use Rattle.semantics.specs.Timetable.{Timetable, timetable}
 use Rattle.semantics.specs.Paths.Cost.{cost-charge}
-use Rattle.semantics.specs.Timetables.Best.{best-timetable, no-timetable}
-use Rattle.semantics.specs.Timetables.Exists.{timetable-charged, timetable-least, timetable-none}
+use Rattle.semantics.proofs.Timetables.Best.{best-timetable, no-timetable}
+use Rattle.semantics.proofs.Timetables.Exists.{timetable-charged, timetable-least, timetable-none}
 
 module _ (a : Automaton) (ok : Proper a) (closed : closed_table a ≡ true) (l : ℕ) where
   -- Of a route there is a timetable, charged the same.

@@ -6,6 +6,7 @@ use Rattle.semantics.specs.Order.{cost, ◌≺◌}
 use Rattle.queue.specs.Queue.{cost_in}
 use Rattle.queue.proofs.Relaxing.{no_less, is-less, relax-passed, relax-taken}
 use borrow.Author.Rules.{rules}
+use Rattle.queue.proofs.relax.Goals.{then-own-charge-2+else-steps_of-steps, else-own-charge-2}
 use Rattle.queue.proofs.relax.Goals as goal
 
 pub returns-then-own-charge : goal.returns-then-own-charge
@@ -27,24 +28,24 @@ returns-then-steps_of-steps c =
 
 pub lower-requires : goal.lower-requires
 lower-requires c =
-    let less : cost c.args.charge c.args.steps
-    ≺ cost_in c.args.nodes c.args.words.now
-    c.args.node = let a = c.args in
     let own = c.charge_of-own.ensures in
-    is-less a.nodes a.node a.charge a.steps a.words.now c.requires
-    (⊎_elim (λ x. inr (sym x.0.taken ∙ own, omega (arith, x.2.ensures, x.3.left))) (λ x. inl (omega (arith, own, c.if-own-charge.false)))
-    c.if-own-charge-2.branch) in
+    let less : cost c.args.charge c.args.steps ≺ cost_in c.args.nodes c.args.words.now c.args.node =
+    is-less c.args.nodes c.args.node c.args.charge c.args.steps c.args.words.now c.requires
+    (elim c.if-own-charge-2.branch [
+      then-own-charge-2+else-steps_of-steps w ↦ inr (sym w.if-own-charge-2.true ∙ own, omega (arith, w.steps_of.ensures, w.if-steps_of-steps.false))
+      | else-own-charge-2 w ↦ inl (omega (arith, own, c.if-own-charge.false, w.if-own-charge-2.false))
+    ]) in
     record { relax = c.requires; less = less }
 
 pub returns : goal.returns
 returns c =
-    let less : cost c.args.charge c.args.steps
-    ≺ cost_in c.args.nodes c.args.words.now
-    c.args.node = let a = c.args in
     let own = c.charge_of-own.ensures in
-    is-less a.nodes a.node a.charge a.steps a.words.now c.requires
-    (⊎_elim (λ x. inr (sym x.0.taken ∙ own, omega (arith, x.2.ensures, x.3.left))) (λ x. inl (omega (arith, own, c.if-own-charge.false)))
-    c.if-own-charge-2.branch) in
+    let less : cost c.args.charge c.args.steps ≺ cost_in c.args.nodes c.args.words.now c.args.node =
+    is-less c.args.nodes c.args.node c.args.charge c.args.steps c.args.words.now c.requires
+    (elim c.if-own-charge-2.branch [
+      then-own-charge-2+else-steps_of-steps w ↦ inr (sym w.if-own-charge-2.true ∙ own, omega (arith, w.steps_of.ensures, w.if-steps_of-steps.false))
+      | else-own-charge-2 w ↦ inl (omega (arith, own, c.if-own-charge.false, w.if-own-charge-2.false))
+    ]) in
     let a = c.args in
     relax-taken a.nodes a.node a.charge a.steps a.words.now c.requires c.lower.new.words
     (less)

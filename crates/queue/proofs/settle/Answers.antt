@@ -8,6 +8,7 @@ use Rattle.queue.specs.Playing.{Seat, put}
 use Rattle.queue.specs.Laws.Lows.{costs-length}
 use Rattle.queue.proofs.Slots.{seat-words, key-lows, seat, put-puts}
 use Rattle.queue.proofs.Replays.{Taken, Replayed, replayed-start, beside-seated, match-seated, replayed-up, replayed-end}
+use Rattle.queue.proofs.settle.Goals.{then-ahead, else-ahead}
 use Rattle.queue.proofs.settle.Goals as goal
 
 -- Slot 0 is in no match: whoever wins the one above this place, it stays.
@@ -47,46 +48,46 @@ other-seat c =
     c.winner-other.result c.winner-other.ensures)
 
 pub ahead-requires : goal.ahead-requires
-ahead-requires c = other-seat c.before
+ahead-requires c = other-seat c
 
 pub key-least-requires : goal.key-least-requires
 key-least-requires c =
-    seat-words c.loop-place.words c.winner-other.result (other-seat c)
+    seat-words c.loop-place.words c.winner-other.result (other-seat c.before.before)
     (c.ahead.ensures.ahead c.if-ahead.true).0
 
 pub set_slot-requires : goal.set_slot-requires
 set_slot-requires c =
-    let taken : Taken c.loop-place.words
-    c.loop-place.best
-    c.loop-place.least
-    c.winner-other.result c.if-ahead.best c.if-ahead.least = let told = c.ahead.ensures in
-    ⊎_elim (λ x. inl (x.3, x.4 ∙ x.2.ensures, told.ahead x.0.taken)) (λ x. inr (x.1, x.2, told.behind x.0.left))
-    c.if-ahead.branch in
+    let told = c.ahead.ensures in
+    let taken : Taken c.loop-place.words c.loop-place.best c.loop-place.least c.winner-other.result c.if-ahead.best c.if-ahead.least =
+    elim c.if-ahead.branch [
+      then-ahead w ↦ inl (w.best-is, w.least-is ∙ w.key-least.ensures, told.ahead w.if-ahead.true)
+      | else-ahead w ↦ inr (w.best-is, w.least-is, told.behind w.if-ahead.false)
+    ] in
     let loop = c.loop-place in
     let k = c.key-settled.result in
     let r = loop.invariant.1 in (
       omega (arith, r.high, r.words),
       ⊎_elim (λ e. omega arith) (λ h. omega (arith, r.words))
           (match-seated c.args.nodes k c.args.words.now loop.words loop.place loop.best loop.least (omega arith) r
-          c.winner-other.result c.winner-other.ensures c.if-ahead.best c.if-ahead.least (taken)),
+          c.winner-other.result c.winner-other.ensures c.if-ahead.best c.if-ahead.least taken),
     )
 
 pub loop-place-preserved : goal.loop-place-preserved
 loop-place-preserved c =
-    let taken : Taken c.loop-place.words
-    c.loop-place.best
-    c.loop-place.least
-    c.winner-other.result c.if-ahead.best c.if-ahead.least = let told = c.ahead.ensures in
-    ⊎_elim (λ x. inl (x.3, x.4 ∙ x.2.ensures, told.ahead x.0.taken)) (λ x. inr (x.1, x.2, told.behind x.0.left))
-    c.if-ahead.branch in
+    let told = c.ahead.ensures in
+    let taken : Taken c.loop-place.words c.loop-place.best c.loop-place.least c.winner-other.result c.if-ahead.best c.if-ahead.least =
+    elim c.if-ahead.branch [
+      then-ahead w ↦ inl (w.best-is, w.least-is ∙ w.key-least.ensures, told.ahead w.if-ahead.true)
+      | else-ahead w ↦ inr (w.best-is, w.least-is, told.behind w.if-ahead.false)
+    ] in
     let loop = c.loop-place in
     let k = c.key-settled.result in (
       loop.invariant.0,
       rw c.set_slot.ensures
           (replayed-up c.args.nodes k c.args.words.now loop.words loop.place loop.best loop.least (omega arith)
           loop.invariant.1
-          c.winner-other.result c.winner-other.ensures c.if-ahead.best c.if-ahead.least (taken)),
-      rw c.set_slot.ensures (outside c.before.before c.if-ahead.best),
+          c.winner-other.result c.winner-other.ensures c.if-ahead.best c.if-ahead.least taken),
+      rw c.set_slot.ensures (outside c.before.before.before.before.before.before.before.before c.if-ahead.best),
     )
 
 pub returns : goal.returns

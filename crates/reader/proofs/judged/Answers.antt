@@ -1,7 +1,5 @@
 -- `reader::judged` meets its contract. Assumes nothing.
 use mathlib.Core.Path.{sym, ◌∙◌}
-use borrow.Author.Rules.{rules}
-use borrow.Author.Tests.{not-true, not-false, ltb-true, ltb-false}
 use Rattle.reader.proofs.Whole.{judged-refused, whole, whole_long, judged-over, judged-fails, judged-table}
 use Rattle.reader.proofs.judged.Goals as goal
 
@@ -16,16 +14,16 @@ start_holds-starts-requires c =
 pub returns-then-over : goal.returns-then-over
 returns-then-over c =
     let all = c.contents-all in
-    judged-over (whole all.result c.if-all-ne0.false all.ensures) (ltb-true _ _ c.if-over.true)
+    judged-over (whole all.result c.if-all-ne0.false all.ensures) c.if-over.true
 
 pub returns-then-not-starts : goal.returns-then-not-starts
 returns-then-not-starts c =
     let all = c.contents-all in
-    judged-fails (whole all.result c.if-all-ne0.false all.ensures) (ltb-false _ _ c.if-over.false)
-    (sym c.start_holds-starts.ensures ∙ not-true _ c.if-not-starts.true)
+    judged-fails (whole all.result c.if-all-ne0.false all.ensures) c.if-over.false
+    (sym c.start_holds-starts.ensures ∙ c.if-not-starts.true)
 
 pub returns : goal.returns
 returns c =
     let all = c.contents-all in
-    judged-table (whole all.result c.if-all-ne0.false all.ensures) (ltb-false _ _ c.if-over.false)
-    (sym c.start_holds-starts.ensures ∙ not-false _ c.if-not-starts.false)
+    judged-table (whole all.result c.if-all-ne0.false all.ensures) c.if-over.false
+    (sym c.start_holds-starts.ensures ∙ c.if-not-starts.false)

@@ -1,5 +1,4 @@
 -- `reader::read` meets its contract. Assumes nothing.
-use borrow.Author.Rules.{rules}
 use Rattle.reader.proofs.Whole.{read-accepts, read-rejects}
 use Rattle.reader.proofs.read.Goals as goal
 

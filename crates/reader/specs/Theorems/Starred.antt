@@ -16,7 +16,7 @@ use Rattle.semantics.specs.Paths.Greedy.{completes}
 use Rattle.semantics.specs.Paths.Computed.{distances}
 use Rattle.semantics.specs.Regions.Compare.{and-true-iff}
 use Rattle.semantics.specs.Corners.Number.{same_list-eq}
-use Rattle.semantics.specs.Answers.Computed.{computed, computed-answer}
+use Rattle.semantics.proofs.Answers.Computed.{computed, computed-answer}
 use Rattle.reader.specs.Parser.{in_order}
 use Rattle.table.specs.Fields.{Fields}
 use Rattle.reader.specs.Format.{within as byte_within, bit_map, amount_byte, conditions, reset_byte, mode_record, move_record, header, table}

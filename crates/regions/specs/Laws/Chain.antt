@@ -4,9 +4,10 @@
 use Rattle.std.specs.Prelude.{◌≡◌, refl, List, ℕ, suc, ◌<◌, ◌≤◌, length}
 use Rattle.std.proofs.Common.{ap, ◌∙◌, sym, subst}
 use Rattle.semantics.specs.Region.{PricedRegion, WellFormed, top, start, delay, linger, reset, reset_all, charge}
-use Rattle.semantics.specs.Regions.Lengths.{SameTimers, prices-top, start-timers, delay-timers, linger-timers, charge-timers, reset_all-timers, reset-timers}
-use Rattle.semantics.specs.Regions.WellFormed.{start-well-formed, delay-well-formed, linger-well-formed, charge-well-formed}
-use Rattle.semantics.specs.Regions.Absent.{reset-any-well-formed, reset_all-any-well-formed}
+use Rattle.semantics.specs.Regions.Lengths.{SameTimers, prices-top, start-timers, delay-timers, charge-timers, reset_all-timers, reset-timers}
+use Rattle.semantics.proofs.Regions.Lengths.{linger-timers}
+use Rattle.semantics.proofs.Regions.WellFormed.{start-well-formed, delay-well-formed, linger-well-formed, charge-well-formed}
+use Rattle.semantics.proofs.Regions.Absent.{reset-any-well-formed, reset_all-any-well-formed}
 use Rattle.regions.specs.declared.Region.{Region}
 use Rattle.regions.specs.Held.{most_timers, most_corners, pack, view, Valid}
 use Rattle.regions.specs.Laws.Pads.{take-pad}

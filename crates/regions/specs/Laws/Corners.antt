@@ -8,7 +8,7 @@ use Rattle.semantics.specs.Region.{PricedRegion, WellFormed}
 use Rattle.semantics.specs.NodeCount.{corner_count}
 use Rattle.semantics.specs.Corners.Corner.{corner_of, corners, corner_number, corner_at}
 use Rattle.semantics.specs.Corners.Complete.{IsCorner, corner-listed, corners-sound}
-use Rattle.semantics.specs.Corners.Number.{corner_at-listed, number-below}
+use Rattle.semantics.proofs.Corners.Number.{corner_at-listed, number-below}
 use Rattle.semantics.specs.Answers.Places.{highest-prices}
 use Rattle.regions.specs.declared.Region.{Region}
 use Rattle.regions.specs.Held.{highest}

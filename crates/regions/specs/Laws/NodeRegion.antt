@@ -11,7 +11,7 @@ use Rattle.semantics.specs.NodeCount.{corner_count, factor, cell_count}
 use Rattle.semantics.specs.Answer.{count_from}
 use Rattle.semantics.specs.Nodes.Node.{Node, node_of, IsCell, node_number, node_at}
 use Rattle.semantics.specs.Corners.Lists.{length-count_from}
-use Rattle.semantics.specs.Corners.Number.{number-corner_at}
+use Rattle.semantics.proofs.Corners.Number.{number-corner_at}
 use Rattle.semantics.specs.Corners.Rising.{number-index}
 use Rattle.semantics.specs.Nodes.Cells.{number-cell_at, cell_at-length, cell_at-cell}
 use Rattle.regions.specs.declared.nodes.NodeRegion.{NodeRegion}

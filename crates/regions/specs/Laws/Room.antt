@@ -9,7 +9,7 @@ use Rattle.std.proofs.Math.ListN.{get_or-eq_default}
 use Rattle.semantics.specs.Region.{PricedRegion, WellFormed, top, risen, merge, start, leave, arrive, delay, linger, reset, reset_all, charge, within}
 use Rattle.semantics.specs.Regions.Lists.{map_below, set_below, replicate-zero}
 use Rattle.semantics.specs.Regions.Cases.{zero-cases, delay-arrive, delay-leave, lingered, linger-empty, linger-same, reset_alone, reset-alone, reset-joined, alone-cases}
-use Rattle.semantics.specs.Nodes.Regions.{within-whole}
+use Rattle.semantics.proofs.Nodes.Regions.{within-whole}
 use Rattle.regions.specs.Held.{PriceRoom, WholeRoom}
 
 -- Every entry is below m; what is read past the end is 0.

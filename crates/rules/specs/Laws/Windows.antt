@@ -13,7 +13,8 @@ use Rattle.semantics.specs.Run.{among}
 use Rattle.semantics.specs.Automata.Proper.{OnTimers}
 use Rattle.semantics.specs.Corners.Lists.{mem-get_or}
 use Rattle.semantics.specs.Regions.Compare.{and-true-iff}
-use Rattle.semantics.specs.Regions.Windows.{half, free, lowest, above, meets-window, InWindows, AreWindows, windows-none}
+use Rattle.semantics.specs.Regions.Windows.{half, free, lowest, above, InWindows, AreWindows, windows-none}
+use Rattle.semantics.proofs.Regions.Windows.{meets-window}
 use Rattle.table.specs.Held.{automaton_of, IsTable}
 use Rattle.table.specs.Theorems.Access.{table-proper, target_below, timer-count, counts}
 use Rattle.conditions.specs.Windows.{low_of, high_of, joined_low, joined_high}

@@ -16,11 +16,12 @@ use Rattle.semantics.specs.Graph.Distance.{distance, entry_words}
 use Rattle.semantics.specs.Graph.Near.{turned, near, near_words}
 use Rattle.semantics.specs.Automaton.{Automaton}
 use Rattle.semantics.specs.Graph.CornerGraph.{start_node, corner_graph}
-use Rattle.semantics.specs.Nodes.Number.{node_at-node}
+use Rattle.semantics.proofs.Nodes.Number.{node_at-node}
 use Rattle.semantics.specs.Paths.Words.{Blank, table-unreached, table-holds, reached-words}
 use Rattle.semantics.specs.Paths.Found.{words_at, words-scattered}
-use Rattle.semantics.specs.Paths.Near.{BestTarget, words-near}
-use Rattle.semantics.specs.Answers.Graph.{graph-nodes, graph-closed, graph-weights}
+use Rattle.semantics.specs.Paths.Near.{BestTarget}
+use Rattle.semantics.proofs.Paths.Near.{words-near}
+use Rattle.semantics.proofs.Answers.Graph.{graph-nodes, graph-closed, graph-weights}
 use Rattle.semantics.specs.Answers.Modes.{graph-goal, graph_block}
 use Rattle.semantics.specs.Answers.Walk.{NearCosts}
 use Rattle.table.specs.Fields.{most_price}

@@ -4,11 +4,9 @@ use Rattle.std.specs.Prelude.{◌≡◌, refl, Bool, true, false, ℕ, zero, suc
 use Rattle.std.proofs.Math.Path.{ap}
 use Rattle.std.proofs.Common.{ap₂, ◌∙◌, sym, subst, true≢false, le_of_suc-le-suc, not-suc-le-zero, eqb-true, eq-eqb}
 use mathlib.Core.List.{List, [], ◌∷◌, Memᴰ}
-use Rattle.semantics.specs.NodeCount.{corner_count}
 use Rattle.semantics.specs.Corners.Corner.{Corner, corners, same_list, same_corner, place_in, corner_number, corner_at}
 use Rattle.semantics.specs.Regions.Compare.{and-true-iff}
 use Rattle.semantics.specs.Corners.Lists.{Distinct, mem-get_or, mem-place}
-use Rattle.semantics.specs.Corners.Count.{corners-length}
 use Rattle.semantics.specs.Corners.Complete.{corners-distinct}
 
 pub same_list-eq : (l m : List ℕ) → same_list l m ≡ true → l ≡ m
@@ -61,22 +59,6 @@ unfolding corner_number
 number-get_or n i d h = place_at_lem (corners n) (corners-distinct n) i d h
 
 module _ (n : ℕ) where
-  pub corner_at-listed : (i : ℕ) → i < corner_count n 1 → Memᴰ (corner_at n i) (corners n)
-  unfolding corner_at
-  corner_at-listed i h = mem-get_or (corners n) i _ (rw (corners-length n) h)
-
-  -- The corner with a number has that number.
-  pub number-corner_at : (i : ℕ) → i < corner_count n 1 → corner_number n (corner_at n i) ≡ i
-  unfolding corner_at
-  number-corner_at i h = number-get_or n i _ (rw (corners-length n) h)
-
-  -- A corner's number is below the number of corners, and the corner with that number is the corner.
-  pub number-below : (c : Corner) → Memᴰ c (corners n) → corner_number n c < corner_count n 1
-  number-below c m =
-      let o = mem-place (corners n) c m in
-      let e : corner_number n c ≡ o.0 = ap (corner_number n) (sym (o.2 c)) ∙ number-get_or n o.0 c o.1 in
-      rw (e, ← corners-length n) o.1
-
   pub corner_at-number : (c : Corner) → Memᴰ c (corners n) → corner_at n (corner_number n c) ≡ c
   unfolding corner_at
   corner_at-number c m =

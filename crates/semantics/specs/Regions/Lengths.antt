@@ -7,9 +7,9 @@ use Prim.Native.Nat.{ℕ, zero, suc, pred, ◌+◌, ◌-◌, ◌<◌}
 use native.Mathlib.Omega.{arith}
 use Rattle.std.proofs.Math.ListN.{length-append, length-map, length-drop}
 use Rattle.std.proofs.lemmas.List.{length-replicate}
-use Rattle.semantics.specs.Region.{PricedRegion, WellFormed, top, risen, merge, alone, start, leave, arrive, delay, linger, reset, reset_all, charge}
+use Rattle.semantics.specs.Region.{PricedRegion, WellFormed, top, risen, merge, alone, start, leave, arrive, delay, reset, reset_all, charge}
 use Rattle.semantics.specs.Regions.Renumber.{lowered}
-use Rattle.semantics.specs.Regions.Cases.{zero-cases, delay-arrive, delay-leave, linger-empty, linger-same, alone-true, reset_alone, reset_joined, reset-alone, reset-joined, alone-cases}
+use Rattle.semantics.specs.Regions.Cases.{zero-cases, delay-arrive, delay-leave, alone-true, reset_alone, reset_joined, reset-alone, reset-joined, alone-cases}
 
 pub length-risen : (k : ℕ) (gs ws : List ℕ) → length (risen k gs ws) ≡ length ws
 length-risen k [] ws = refl
@@ -27,7 +27,7 @@ pub record SameTimers (r s : PricedRegion) : Type 0 where
   pub whole : length s.whole ≡ length r.whole
   pub group : length s.group ≡ length r.group
 
-same_refl : (r : PricedRegion) → SameTimers r r
+pub same_refl : (r : PricedRegion) → SameTimers r r
 same_refl r = record { whole = refl; group = refl }
 
 same-trans : {r s t : PricedRegion} → SameTimers r s → SameTimers s t → SameTimers r t
@@ -54,12 +54,6 @@ module _ (r : PricedRegion) where
   delay-timers rate =
       ⊎_elim (λ z. subst (SameTimers r) (sym (delay-arrive rate r z)) arrive-timers)
       (λ p. subst (SameTimers r) (sym (delay-leave rate r p)) (leave-timers rate))
-      (zero-cases r)
-
-  pub linger-timers : (rate : ℕ) → SameTimers r (linger rate r)
-  linger-timers rate =
-      ⊎_elim (λ z. subst (SameTimers r) (sym (linger-empty rate r z)) (record { whole = refl; group = refl }))
-      (λ p. subst (SameTimers r) (sym (linger-same rate r p)) (same_refl r))
       (zero-cases r)
 
   pub charge-timers : (price : ℕ) → SameTimers r (charge price r)
@@ -89,12 +83,6 @@ module _ (r : PricedRegion) where
   unfolding arrive
   arrive-prices = length-drop 1 r.prices ∙ omega arith
 
-  pub linger-prices : (rate : ℕ) → length (linger rate r).prices ≡ length r.prices
-  linger-prices rate =
-      ⊎_elim (λ z. ap (λ (s : PricedRegion). length s.prices) (linger-empty rate r z) ∙ length-set r.prices (top r) _)
-      (λ p. ap (λ (s : PricedRegion). length s.prices) (linger-same rate r p))
-      (zero-cases r)
-
   pub charge-prices : (price : ℕ) → length (charge price r).prices ≡ length r.prices
   unfolding charge
   charge-prices price = length-map r.prices (λ c. c + price)
@@ -115,9 +103,6 @@ prices-top r p = let e : length r.prices ≡ suc (pred (length r.prices)) = omeg
 module _ (r : PricedRegion) (w : WellFormed r) where
   pub leave-top : (rate : ℕ) → top (leave rate r) ≡ suc (top r)
   leave-top rate = ap pred (leave-prices r rate) ∙ prices-top r w.priced
-
-  pub arrive-top : top (arrive r) ≡ pred (top r)
-  arrive-top = ap pred (arrive-prices r)
 
   -- A reset of a timer that is alone in its group leaves one price fewer.
   pub reset-alone-prices : (x : ℕ) → alone x r.group ≡ true → length r.prices ≡ suc (length (reset x r).prices)

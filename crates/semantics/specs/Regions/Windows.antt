@@ -3,9 +3,8 @@
 -- Assumes nothing.
 use Rattle.std.specs.Prelude.{◌≡◌, refl, true, ◌↔◌, List, [], ℕ, ◌+◌, ◌*◌, ◌≤◌, ◌<◌, get_or}
 use Rattle.std.proofs.Common.{arith}
-use Rattle.semantics.specs.Condition.{Comparison, less, at_most, equal, at_least, greater, Compares, Condition}
-use Rattle.semantics.specs.Region.{PricedRegion, high, meets, meets_all}
-use Rattle.semantics.specs.Regions.Meets.{test-middle}
+use Rattle.semantics.specs.Condition.{Comparison, less, at_most, equal, at_least, greater, Condition}
+use Rattle.semantics.specs.Region.{PricedRegion, high, meets_all}
 
 -- Where timer x of a region stands, in half minutes: at an even place on a whole minute, at an odd one between two.
 abbrev pub half : PricedRegion → ℕ → ℕ
@@ -29,23 +28,6 @@ above at_most v = 2 * v + 1
 above equal v = 2 * v + 1
 above at_least v = free
 above greater v = free
-
-compares-window : (k : Comparison) (h v : ℕ) → h < free → Compares k h (v + v) ↔ ((lowest k v ≤ h) × (h < above k v))
-compares-window less h v f = (λ c. omega arith, λ w. omega arith)
-compares-window at_most h v f = (λ c. omega arith, λ w. omega arith)
-compares-window equal h v f = (λ c. omega arith, λ w. omega arith)
-compares-window at_least h v f = (λ c. omega arith, λ w. omega arith)
-compares-window greater h v f = (λ c. omega arith, λ w. omega arith)
-
--- A region meets a condition if its timer stands in the condition's window.
-pub meets-window :
-    (c : Condition) (r : PricedRegion) → half r c.timer < free
-    → (meets c r ≡ true) ↔ ((lowest c.comparison c.value ≤ half r c.timer) × (half r c.timer < above c.comparison c.value))
-unfolding meets
-meets-window c r f =
-    let m = test-middle c.comparison c.value (get_or r.whole c.timer 0) (get_or r.group c.timer 0) in
-    let w = compares-window c.comparison (half r c.timer) c.value f in
-    (λ t. w.0 (m.0 t), λ i. m.1 (w.1 i))
 
 -- Windows for all timers: low and high give for each the lowest place, and the first above it that is outside.
 abbrev pub InWindows : (ℕ → ℕ) → (ℕ → ℕ) → PricedRegion → Type 0

@@ -8,7 +8,7 @@ use Rattle.std.proofs.Math.ListN.{get_or}
 use Rattle.semantics.specs.Automaton.{timers}
 use Rattle.semantics.specs.Region.{PricedRegion, top}
 use Rattle.semantics.specs.Nodes.Node.{node_at}
-use Rattle.semantics.specs.Nodes.Number.{node_at-node}
+use Rattle.semantics.proofs.Nodes.Number.{node_at-node}
 use Rattle.semantics.specs.Corners.Lists.{get_or-count_from}
 use Rattle.table.specs.Held.{automaton_of, IsTable}
 use Rattle.regions.specs.declared.nodes.NodeRegion.{NodeRegion}

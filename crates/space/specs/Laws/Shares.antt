@@ -6,8 +6,9 @@ use Rattle.std.proofs.Math.Nat.{mul_assoc, div-eq_of_eq-mul_right}
 use Rattle.semantics.specs.Automaton.{Automaton, timers}
 use Rattle.semantics.specs.NodeCount.{corner_count, cell_count, node_count}
 use Rattle.semantics.specs.Chain.{begin}
-use Rattle.semantics.specs.Bounds.Reached.{reached-begin}
-use Rattle.semantics.specs.Answers.Places.{IsPlace, reached-place, number-below}
+use Rattle.semantics.proofs.Bounds.Reached.{reached-begin}
+use Rattle.semantics.specs.Answers.Places.{IsPlace}
+use Rattle.semantics.proofs.Answers.Places.{reached-place, number-below}
 use Rattle.table.specs.Held.{automaton_of, IsTable}
 use Rattle.table.specs.Theorems.Access.{table-proper, counts, mode-count, timer-count}
 use Rattle.rules.specs.Rules.{IsRules}

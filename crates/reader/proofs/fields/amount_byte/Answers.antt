@@ -1,6 +1,5 @@
 -- `reader::fields::amount_byte` meets its contract. Assumes nothing.
 use mathlib.Core.Path.{refl}
-use borrow.Author.Rules.{rules}
 use Rattle.reader.specs.Step.{gives}
 use Rattle.reader.proofs.fields.amount_byte.Goals as goal
 

@@ -1,7 +1,6 @@
 -- `reader::fields::any_byte` meets its contract. Assumes nothing.
 use mathlib.Core.Path.{refl}
 use native.Mathlib.Omega.{arith}
-use borrow.Author.Rules.{rules}
 use Rattle.reader.specs.Parser.{done}
 use Rattle.reader.specs.Step.{refuses, gives}
 use Rattle.reader.specs.Theorems.Running.{run-byte, run_none}

@@ -1,5 +1,4 @@
 -- `reader::fields::bit_map` meets its contract. Assumes nothing.
-use borrow.Author.Rules.{rules}
 use lib.ListN.{drop}
 use Rattle.reader.specs.Format.{any_byte, bit_map}
 use Rattle.reader.proofs.Giving.{part-refused, map_first, map-further, map-right}

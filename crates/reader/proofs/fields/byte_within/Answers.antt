@@ -1,7 +1,6 @@
 -- `reader::fields::byte_within` meets its contract. Assumes nothing.
 use mathlib.Core.Path.{refl}
 use native.Mathlib.Omega.{arith}
-use borrow.Author.Rules.{rules}
 use Rattle.reader.specs.Step.{refuses, gives}
 use Rattle.reader.proofs.Giving.{within_none, within-below, within-above, within-right}
 use Rattle.reader.proofs.fields.byte_within.Goals as goal

@@ -1,6 +1,5 @@
 -- `reader::fields::optional` meets its contract. Assumes nothing.
 use mathlib.Core.Path.{refl}
-use borrow.Author.Rules.{rules}
 use Rattle.reader.specs.Step.{gives}
 use Rattle.reader.proofs.fields.optional.Goals as goal
 

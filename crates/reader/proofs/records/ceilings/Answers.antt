@@ -1,13 +1,12 @@
 -- `reader::records::ceilings` meets its contract. The loop has collected the first i ceilings. Assumes nothing.
-use Prim.Native.Nat.{ℕ, ◌+◌, ◌-◌}
+use Prim.Native.Nat.{ℕ, ◌+◌}
 use mathlib.Core.Path.{◌≡◌, refl, ap, ◌∙◌}
 use native.Mathlib.Omega.{arith}
 use lib.ListN.{drop}
-use Rattle.reader.specs.Parser.{Parser, took}
-use Rattle.reader.specs.Format.{within}
-use Rattle.reader.specs.Step.{gives, Wrote}
+use Rattle.reader.specs.Parser.{took}
+use Rattle.reader.specs.Step.{gives}
 use Rattle.reader.proofs.Writing.{wrote_none, wrote_then}
-use Rattle.reader.proofs.Collecting.{Gathered, gathered_none, gathered-more, gathered-refused, gathered-all}
+use Rattle.reader.proofs.Collecting.{gathered_none, gathered-more, gathered-refused, gathered-all}
 use Rattle.reader.proofs.records.ceilings.Invariants.{ceiling}
 use Rattle.reader.proofs.records.ceilings.Goals as goal
 

@@ -1,14 +1,10 @@
 -- `reader::records::conditions` meets its contract. The loop has collected the first i conditions. Assumes nothing.
-use Prim.Native.Nat.{ℕ, ◌-◌}
 use mathlib.Core.Path.{◌≡◌, refl}
 use native.Mathlib.Omega.{arith}
-use borrow.Author.Rules.{rules}
-use Rattle.reader.specs.Parser.{Parser}
-use Rattle.table.specs.Meaning.{stands}
-use Rattle.reader.specs.Format.{if_stands, within, conditions}
-use Rattle.reader.specs.Step.{gives, Wrote}
+use Rattle.reader.specs.Format.{conditions}
+use Rattle.reader.specs.Step.{gives}
 use Rattle.reader.proofs.Writing.{wrote_none, wrote-byte}
-use Rattle.reader.proofs.Collecting.{Gathered, gathered_none, gathered-more, gathered-refused, gathered-all}
+use Rattle.reader.proofs.Collecting.{gathered_none, gathered-more, gathered-refused, gathered-all}
 use Rattle.reader.proofs.records.conditions.Invariants.{place}
 use Rattle.reader.proofs.records.conditions.Goals as goal
 

@@ -1,7 +1,6 @@
 -- `reader::records::contents` meets its contract. Assumes nothing.
 use mathlib.Core.Path.{refl, ap}
 use native.Mathlib.Omega.{arith}
-use borrow.Author.Rules.{rules}
 use lib.ListN.{length}
 use Rattle.reader.proofs.Whole.{counts-there, header_refused, ceilings-refused, modes-refused, all_held}
 use Rattle.reader.proofs.records.contents.Goals as goal
@@ -18,7 +17,8 @@ ceilings-c-requires c =
 
 pub returns-then-c-ne0 : goal.returns-then-c-ne0
 returns-then-c-ne0 c =
-    ceilings-refused c.header-refusal.ensures c.if-refusal-ne0.false c.ceilings-c.result _ _ _ refl refl refl c.ceilings-c.ensures c.if-c-ne0.true
+    ceilings-refused c.header-refusal.ensures c.if-refusal-ne0.false c.ceilings-c.result _ _ _ refl refl refl c.ceilings-c.ensures
+    c.if-c-ne0.true
 
 pub mode_records-m-requires : goal.mode_records-m-requires
 mode_records-m-requires c =
@@ -26,7 +26,8 @@ mode_records-m-requires c =
 
 pub returns-then-m-ne0 : goal.returns-then-m-ne0
 returns-then-m-ne0 c =
-    modes-refused c.header-refusal.ensures c.if-refusal-ne0.false c.ceilings-c.result _ _ _ refl refl refl c.ceilings-c.ensures c.if-c-ne0.false
+    modes-refused c.header-refusal.ensures c.if-refusal-ne0.false c.ceilings-c.result _ _ _ refl refl refl c.ceilings-c.ensures
+    c.if-c-ne0.false
     c.mode_records-m.result c.mode_records-m.ensures c.if-m-ne0.true
 
 pub move_records-requires : goal.move_records-requires

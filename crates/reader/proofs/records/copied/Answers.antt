@@ -1,5 +1,4 @@
 -- `reader::records::copied` meets its contract. Assumes nothing.
-use borrow.Author.Rules.{rules}
 use Rattle.reader.proofs.Copying.{copies}
 use Rattle.reader.proofs.records.copied.Goals as goal
 

@@ -1,7 +1,6 @@
 -- `reader::records::ends` meets its contract. Assumes nothing.
 use Prim.Native.Nat.{◌-◌}
 use mathlib.Core.Path.{refl}
-use borrow.Author.Rules.{rules}
 use lib.ListN.{drop}
 use Rattle.reader.specs.Format.{within}
 use Rattle.reader.proofs.Giving.{part-refused, part-known, part-last}

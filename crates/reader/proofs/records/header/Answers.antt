@@ -1,6 +1,5 @@
 -- `reader::records::header` meets its contract. Assumes nothing.
 use native.Mathlib.Omega.{arith}
-use borrow.Author.Rules.{rules}
 use Rattle.reader.proofs.Copying.{header-first, header-second, header-third, header-whole, some-mode}
 use Rattle.reader.proofs.records.header.Goals as goal
 
@@ -18,9 +17,14 @@ returns-then-e-ne0 c =
 pub overflow_sub-last : goal.overflow_sub-last
 overflow_sub-last c =
     let long = c.requires in
-    omega (arith, some-mode long c.if-m-ne0.false c.if-n-ne0.false c.if-e-ne0.false c.copied-m.ensures c.copied-n.ensures c.copied-e.ensures)
+    omega (
+      arith,
+      some-mode long c.if-m-ne0.false c.if-n-ne0.false c.if-e-ne0.false c.copied-m.ensures c.copied-n.ensures
+          c.copied-e.ensures,
+    )
 
 pub returns : goal.returns
 returns c =
     let long = c.requires in
-    header-whole c.if-m-ne0.false c.copied-m.ensures c.copied-n.ensures c.if-n-ne0.false c.copied-e.ensures long c.if-e-ne0.false c.copied.ensures
+    header-whole c.if-m-ne0.false c.copied-m.ensures c.copied-n.ensures c.if-n-ne0.false c.copied-e.ensures long c.if-e-ne0.false
+    c.copied.ensures

@@ -1,7 +1,6 @@
 -- `reader::records::high_byte` meets its contract. Assumes nothing.
 use mathlib.Core.Path.{ap}
 use Prim.Native.Nat.{ℕ}
-use borrow.Author.Rules.{rules}
 use lib.ListN.{set}
 use Rattle.reader.specs.Format.{amount_byte}
 use Rattle.reader.proofs.Giving.{gives_more}

@@ -1,5 +1,4 @@
 -- `reader::records::mode_record` meets its contract. Assumes nothing.
-use borrow.Author.Rules.{rules}
 use lib.ListN.{drop}
 use Rattle.reader.specs.Format.{bit_map, amount_byte, conditions, mode_record}
 use Rattle.reader.proofs.Giving.{part-refused, part-known, part-last, two-refused, two-taken}
@@ -30,4 +29,5 @@ returns c =
     part-known (bit_map a.timers) _ (drop a.from a.bytes.now) c.if-map-ne0.false map.ensures
     (two-taken (amount_byte map.result.value 0) (λ low. conditions map.result.value) (λ low cs. (low, cs)) _
     (drop map.result.next a.bytes.now) c.if-p-ne0.false price.ensures (λ low cs w.
-    part-last (amount_byte map.result.value 7) _ (drop price.result.next a.bytes.now) c.high_byte.ensures (λ high q e. wrote-mode high w e)))
+    part-last (amount_byte map.result.value 7) _ (drop price.result.next a.bytes.now) c.high_byte.ensures (λ high q e. wrote-mode high w
+    e)))

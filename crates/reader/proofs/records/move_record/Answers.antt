@@ -1,7 +1,6 @@
 -- `reader::records::move_record` meets its contract. Assumes nothing.
 use Prim.Native.Nat.{◌-◌}
 use native.Mathlib.Omega.{arith}
-use borrow.Author.Rules.{rules}
 use lib.ListN.{drop}
 use Rattle.reader.specs.Format.{within, bit_map, amount_byte, conditions, move_record}
 use Rattle.reader.specs.Step.{resets}
@@ -21,7 +20,8 @@ returns-then-e-ne0 c =
     let a = c.args in
     let map = c.bit_map-map in
     part-known (bit_map a.timers) _ (drop a.from a.bytes.now) c.if-map-ne0.false map.ensures
-    (two-refused (within 5 0 (a.modes - 1)) (λ s. within 5 0 (a.modes - 1)) (λ s t. (s, t)) _ (drop map.result.next a.bytes.now) c.if-e-ne0.true
+    (two-refused (within 5 0 (a.modes - 1)) (λ s. within 5 0 (a.modes - 1)) (λ s t. (s, t)) _ (drop map.result.next a.bytes.now)
+    c.if-e-ne0.true
     c.ends-e.ensures)
 
 pub returns-then-p-ne0 : goal.returns-then-p-ne0
@@ -31,7 +31,8 @@ returns-then-p-ne0 c =
     let map = c.bit_map-map in
     let ends = c.ends-e in
     part-known (bit_map a.timers) _ (drop a.from a.bytes.now) c.if-map-ne0.false map.ensures
-    (two-taken (within 5 0 (a.modes - 1)) (λ s. within 5 0 (a.modes - 1)) (λ s t. (s, t)) _ (drop map.result.next a.bytes.now) c.if-e-ne0.false
+    (two-taken (within 5 0 (a.modes - 1)) (λ s. within 5 0 (a.modes - 1)) (λ s t. (s, t)) _ (drop map.result.next a.bytes.now)
+    c.if-e-ne0.false
     ends.ensures (λ s t w.
     two-refused (amount_byte map.result.value 0) (λ low. conditions map.result.value) (λ low cs. (low, cs)) _
     (drop ends.result.next a.bytes.now) c.if-p-ne0.true c.priced-p.ensures))
@@ -44,7 +45,8 @@ returns-then-r-ne0 c =
     let ends = c.ends-e in
     let price = c.priced-p in
     part-known (bit_map a.timers) _ (drop a.from a.bytes.now) c.if-map-ne0.false map.ensures
-    (two-taken (within 5 0 (a.modes - 1)) (λ s. within 5 0 (a.modes - 1)) (λ s t. (s, t)) _ (drop map.result.next a.bytes.now) c.if-e-ne0.false
+    (two-taken (within 5 0 (a.modes - 1)) (λ s. within 5 0 (a.modes - 1)) (λ s t. (s, t)) _ (drop map.result.next a.bytes.now)
+    c.if-e-ne0.false
     ends.ensures (λ s t v.
     two-taken (amount_byte map.result.value 0) (λ low. conditions map.result.value) (λ low cs. (low, cs)) _
     (drop ends.result.next a.bytes.now) c.if-p-ne0.false price.ensures (λ low cs w.
@@ -72,7 +74,8 @@ returns c =
     let price = c.priced-p in
     let reset = c.resets-r in
     part-known (bit_map a.timers) _ (drop a.from a.bytes.now) c.if-map-ne0.false map.ensures
-    (two-taken (within 5 0 (a.modes - 1)) (λ s. within 5 0 (a.modes - 1)) (λ s t. (s, t)) _ (drop map.result.next a.bytes.now) c.if-e-ne0.false
+    (two-taken (within 5 0 (a.modes - 1)) (λ s. within 5 0 (a.modes - 1)) (λ s t. (s, t)) _ (drop map.result.next a.bytes.now)
+    c.if-e-ne0.false
     ends.ensures (λ s t v.
     two-taken (amount_byte map.result.value 0) (λ low. conditions map.result.value) (λ low cs. (low, cs)) _
     (drop ends.result.next a.bytes.now) c.if-p-ne0.false price.ensures (λ low cs w.

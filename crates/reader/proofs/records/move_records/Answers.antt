@@ -1,13 +1,11 @@
 -- `reader::records::move_records` meets its contract. The loop has collected the first i records. Assumes nothing.
-use Prim.Native.Nat.{◌*◌, ◌-◌}
 use mathlib.Core.Path.{◌≡◌, refl}
-use mathlib.Core.List.{map}
 use native.Mathlib.Omega.{arith}
 use Rattle.reader.specs.Format.{move_record}
-use Rattle.table.specs.Held.{flat, move_bytes}
-use Rattle.reader.specs.Step.{gives, Wrote}
+use Rattle.table.specs.Held.{move_bytes}
+use Rattle.reader.specs.Step.{gives}
 use Rattle.reader.proofs.Writing.{wrote_none, wrote-more}
-use Rattle.reader.proofs.Collecting.{Gathered, gathered_none, gathered-more, gathered-refused, gathered-all}
+use Rattle.reader.proofs.Collecting.{gathered_none, gathered-more, gathered-refused, gathered-all}
 use Rattle.reader.proofs.records.move_records.Goals as goal
 
 pub loop-i-init : goal.loop-i-init

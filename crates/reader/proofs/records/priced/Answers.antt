@@ -1,6 +1,5 @@
 -- `reader::records::priced` meets its contract. Assumes nothing.
 use mathlib.Core.Path.{refl}
-use borrow.Author.Rules.{rules}
 use lib.ListN.{drop}
 use native.Mathlib.Omega.{arith}
 use Rattle.reader.specs.Format.{amount_byte, conditions}

@@ -1,7 +1,6 @@
 -- `reader::records::resets` meets its contract. Assumes nothing.
 use Prim.Native.Nat.{ℕ, ◌%◌}
 use mathlib.Core.Path.{refl, ap}
-use borrow.Author.Rules.{rules}
 use Rattle.reader.proofs.Giving.{gives_more}
 use Rattle.reader.proofs.Writing.{wrote-two}
 use Rattle.reader.proofs.records.resets.Goals as goal

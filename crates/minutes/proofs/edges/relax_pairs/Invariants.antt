@@ -1,0 +1,15 @@
+-- `minutes::edges::relax_pairs` meets its contract. The loop has relaxed the pairs that wait fewer minutes.
+-- Assumes nothing.
+use Prim.Native.Nat.{◌+◌, ◌*◌, ◌-◌, ◌≤◌, ◌<◌}
+use native.Mathlib.Omega.{arith}
+use borrow.Author.Rules.{rules}
+use Rattle.minutes.specs.Edges.{PairsDone}
+use Rattle.minutes.proofs.PairRelaxing.{first_below, first-few, pairs-long, pairs-none, minute-ready, pairs-more, pairs-all}
+use Rattle.minutes.proofs.edges.relax_pairs.Given as goal
+
+abbrev pub invariant-loop-minutes : goal.invariant-loop-minutes
+invariant-loop-minutes l =
+    (l.minutes ≤ l.longest + 1) × PairsDone (λ e. e.label < 64 * l.minutes) l.table l.states l.from l.initial.words l.words
+
+abbrev pub decreases-loop-minutes : goal.decreases-loop-minutes
+decreases-loop-minutes l = l.longest + 1 - l.minutes

@@ -1,0 +1,81 @@
+-- `timetable::walk::walk` meets its contract. The loop takes a pair or takes one back, and has written the timetable where it ends.
+-- Assumes nothing.
+use mathlib.Core.Path.{sym, ◌∙◌}
+use mathlib.Core.Logic.{◌≢◌}
+use Prim.Native.Nat.{◌*◌, ◌/◌}
+use native.Mathlib.Omega.{arith}
+use lib.ListN.{length, take}
+use Rattle.table.specs.Held.{automaton_of}
+use Rattle.route.proofs.Live.{turns}
+use Rattle.timetable.specs.Walk.{WalkReady}
+use Rattle.timetable.proofs.Walking.{cells-some, Walking, walking-begins, entry_here, ready, walking-ends}
+use Rattle.timetable.proofs.StepFurther.{advance-ready, walking-advances, fewer-advance}
+use Rattle.timetable.proofs.StepBack.{backtrack-ready, walking-backtracks, fewer-backtrack}
+use Rattle.timetable.proofs.walk.walk.Goals.{In-loop-states}
+use Rattle.timetable.proofs.walk.walk.Goals as goal
+
+-- Out of the goal.
+far : (c : In-loop-states) → (let args = c.args in
+    c.loop-states.stand.node / args.states.cells ≢ (automaton_of args.table.now).goal)
+far c e = c.loop-states-test.true (c.mode_of.ensures ∙ e ∙ sym c.goal-goal.ensures)
+
+pub goal-goal-requires : goal.goal-goal-requires
+goal-goal-requires c = c.requires.setting.is-table
+
+pub loop-states-init : goal.loop-states-init
+loop-states-init c = λ w. walking-begins w
+
+pub mode_of-requires : goal.mode_of-requires
+mode_of-requires c =
+    let w = c.requires in
+    (omega (arith, (entry_here w (c.loop-states.invariant w)).0, w.setting.few), (cells-some w).0, (cells-some w).1)
+
+pub next_pair-next-requires : goal.next_pair-next-requires
+next_pair-next-requires c =
+    let w = c.requires in
+    ready w (c.loop-states.invariant w)
+
+pub advance-stand-requires : goal.advance-stand-requires
+advance-stand-requires c =
+    let w = c.requires in
+    advance-ready w (c.loop-states.invariant w) c.next_pair-next.result c.next_pair-next.ensures c.if-next-lt-NO_PAIR.true
+
+pub loop-states-smaller-then-next-lt-NO_PAIR : goal.loop-states-smaller-then-next-lt-NO_PAIR
+loop-states-smaller-then-next-lt-NO_PAIR c =
+    let w = c.requires in
+    fewer-advance w (c.loop-states.invariant w) c.next_pair-next.result c.next_pair-next.ensures c.if-next-lt-NO_PAIR.true c.advance-stand.new.words
+    c.advance-stand.new.route c.advance-stand.result c.advance-stand.ensures
+
+pub loop-states-preserved-then-next-lt-NO_PAIR : goal.loop-states-preserved-then-next-lt-NO_PAIR
+loop-states-preserved-then-next-lt-NO_PAIR c = λ w.
+    walking-advances w (c.loop-states.invariant w) c.next_pair-next.result c.next_pair-next.ensures c.if-next-lt-NO_PAIR.true c.advance-stand.new.words
+    c.advance-stand.new.route c.advance-stand.result c.advance-stand.ensures
+
+pub backtrack-stand-requires : goal.backtrack-stand-requires
+backtrack-stand-requires c =
+    let w = c.requires in
+    backtrack-ready w (c.loop-states.invariant w) c.next_pair-next.result c.next_pair-next.ensures c.if-next-lt-NO_PAIR.false (far (goal.at.backtrack-stand-requires c).In-loop-states)
+
+pub loop-states-smaller : goal.loop-states-smaller
+loop-states-smaller c =
+    let w = c.requires in
+    fewer-backtrack w (c.loop-states.invariant w) c.next_pair-next.result c.next_pair-next.ensures c.if-next-lt-NO_PAIR.false (far (goal.at.loop-states-smaller c).In-loop-states)
+    c.backtrack-stand.new.words c.backtrack-stand.result c.backtrack-stand.ensures
+
+pub loop-states-preserved : goal.loop-states-preserved
+loop-states-preserved c = λ w.
+    walking-backtracks w (c.loop-states.invariant w) c.next_pair-next.result c.next_pair-next.ensures c.if-next-lt-NO_PAIR.false (far (goal.at.loop-states-preserved c).In-loop-states)
+    c.backtrack-stand.new.words c.backtrack-stand.result c.backtrack-stand.ensures
+
+pub shape_of-words : goal.shape_of-words
+shape_of-words c =
+    (c.loop-states.invariant c.requires).words.kept
+
+pub shape_of-route : goal.shape_of-route
+shape_of-route c =
+    (c.loop-states.invariant c.requires).sized
+
+pub returns : goal.returns
+returns c =
+    let w = c.requires in
+    walking-ends w (c.loop-states.invariant w) (sym c.mode_of.ensures ∙ c.loop-states-test.false ∙ c.goal-goal.ensures)

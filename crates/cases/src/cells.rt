@@ -8,10 +8,10 @@ use regions::{Region, nodes};
 // Ceilings by which there is one cell, so that nodes have the numbers of its corners.
 pub const ONE_CELL: [u8; Region::MOST_TIMERS] = [0; Region::MOST_TIMERS];
 
-pub fn corners(timers: usize)
+pub fn corners(rt: &impl Print, timers: usize)
     requires { (1 ≤ timers) × (timers ≤ most_timers) }
 {
-    print::with(b"corners found again A\n", found_again(timers));
+    print::with(rt, b"corners found again A\n", found_again(timers));
 }
 
 fn found_again(timers: usize) -> usize

@@ -11,49 +11,49 @@ use table::TABLE;
 
 const WORDS: usize = 6000;
 
-pub fn chain(table: &[u8; TABLE], numbers: &[usize; TOKENS])
+pub fn chain(rt: &impl Print, table: &[u8; TABLE], numbers: &[usize; TOKENS])
     requires { IsTable table.now }
 {
     let mut words = [0u32; WORDS];
     let answer = searches::searched(table, &mut words);
     match answer {
-        Searched::Refused(n) => print::refused(n),
-        Searched::Nodes(_) => follow(table, &words, numbers),
+        Searched::Refused(n) => print::refused(rt, n),
+        Searched::Nodes(_) => follow(rt, table, &words, numbers),
     }
 }
 
 // The start and the places after the steps, as far as the steps are allowed.
-fn follow(table: &[u8; TABLE], words: &[u32; WORDS], numbers: &[usize; TOKENS])
+fn follow(rt: &impl Print, table: &[u8; TABLE], words: &[u32; WORDS], numbers: &[usize; TOKENS])
     requires { IsTable table.now }
 {
-    let mut place = places::start(table);
+    let mut place = places::start(rt, table);
     for i in 1..TOKENS {
-        show(table, words, place, i as u32 - 1);
+        show(rt, table, words, place, i as u32 - 1);
         let step = numbers[i];
         if (step == 0) | !place.allowed {
             return;
         }
-        place = places::step(table, place, step % LETTER);
+        place = places::step(rt, table, place, step % LETTER);
     }
 }
 
 // The place, and whether it stands by the words after so many steps.
-fn show(table: &[u8; TABLE], words: &[u32; WORDS], place: Place, steps: u32)
+fn show(rt: &impl Print, table: &[u8; TABLE], words: &[u32; WORDS], place: Place, steps: u32)
     requires { OnChain table.now 0 place.mode place.region }
 {
     let mode = place.mode;
     let region = place.region;
     if !place.allowed {
-        print::text(b": not allowed\n");
+        print::text(rt, b": not allowed\n");
         return;
     }
     let node = nodes::node_of(mode, region, 0, table::ceilings(table));
     if stands(words, node, region, steps) {
-        print::with(b", stands in mode A", mode);
+        print::with(rt, b", stands in mode A", mode);
     } else {
-        print::with(b", does not stand in mode A", mode);
+        print::with(rt, b", does not stand in mode A", mode);
     }
-    scripts::parts(region);
+    scripts::parts(rt, region);
 }
 
 // Whether the words say of some corner that it costs its price and so many steps. The corners are nodes in a row, from the node on.

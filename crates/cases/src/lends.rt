@@ -2,12 +2,12 @@
 use crate::print;
 use route::Needs;
 
-pub fn lend(bytes: &[u8]) {
+pub fn lend(rt: &impl Print, bytes: &[u8]) {
     let needs = route::lend(bytes);
     match needs {
-        Needs::Refused(n) => print::refused(n),
+        Needs::Refused(n) => print::refused(rt, n),
         Needs::Memory(words, room) => {
-            print::filled(b"words A route bytes B\n", [words, room, 0, 0])
+            print::filled(rt, b"words A route bytes B\n", [words, room, 0, 0])
         }
     }
 }

@@ -19,36 +19,38 @@ mod writes;
 ghost use Rattle.table.specs.Held.{IsTable};
 
 use crate::tokens::TOKENS;
-use libc::STDIN_FILENO;
 use reader::Verdict;
+use std::io;
+use std::io::Read;
 use table::TABLE;
 
 // Of a script the first 65,536 bytes are run.
-fn main() {
-    let mut script = io::large_buffer();
-    let n = io::read_full(STDIN_FILENO, &mut script);
-    run(&script[..n]);
+fn main(rt: HostRuntime) -> io::Result<()> {
+    let mut script = Vec::new(rt.alloc());
+    rt.stdin().take(65536).read_to_end(&mut script)?;
+    run(&rt, &script);
+    Ok(())
 }
 
 // Runs each line that has its end, with it.
-fn run(script: &[u8]) {
+fn run(rt: &impl Print, script: &[u8]) {
     let mut from = 0;
     for at in 0..script.len() {
         if script[at] == b'\n' {
             let end = at + 1;
-            run_line(&script[from..end]);
+            run_line(rt, &script[from..end]);
             from = end;
         }
     }
 }
 
 // Splits a line, and runs it.
-fn run_line(line: &[u8]) {
+fn run_line(rt: &impl Print, line: &[u8]) {
     let mut numbers = [0usize; TOKENS];
     let mut bytes = [0u8; TOKENS];
     tokens::read(line, &mut numbers);
     let count = tokens::bytes(line, &mut bytes);
-    called(numbers[0], line, &numbers, &bytes[..count]);
+    called(rt, numbers[0], line, &numbers, &bytes[..count]);
 }
 
 // The names of the calls as tokens, by their last five letters; and what begins a title and a comment.
@@ -78,38 +80,38 @@ const COMMENT: usize = 0x2300_0000;
 
 // Runs a call: the first token is its name, the others are its numbers, and behind the colon are the bytes of a table. A title is printed as it
 // stands.
-fn called(name: usize, line: &[u8], numbers: &[usize; TOKENS], bytes: &[u8]) {
+fn called(rt: &impl Print, name: usize, line: &[u8], numbers: &[usize; TOKENS], bytes: &[u8]) {
     match name {
-        PLAN => plans::plan(numbers, bytes),
-        TIMETABLE => timetables::timetable(numbers, bytes),
-        LEND => lends::lend(bytes),
-        WRITE => writes::write(numbers, bytes),
-        REGION => scripts::region(numbers),
-        RESET => resets::reset(numbers, bytes),
-        CORNERS => cells::corners(scripts::timers(numbers)),
-        READ | SEARCH | CHAIN => of_table(numbers, bytes),
+        PLAN => plans::plan(rt, numbers, bytes),
+        TIMETABLE => timetables::timetable(rt, numbers, bytes),
+        LEND => lends::lend(rt, bytes),
+        WRITE => writes::write(rt, numbers, bytes),
+        REGION => scripts::region(rt, numbers),
+        RESET => resets::reset(rt, numbers, bytes),
+        CORNERS => cells::corners(rt, scripts::timers(numbers)),
+        READ | SEARCH | CHAIN => of_table(rt, numbers, bytes),
         0 | COMMENT => {}
-        TITLE => print::text(line),
-        _ => print::unknown(line),
+        TITLE => print::text(rt, line),
+        _ => print::unknown(rt, line),
     }
 }
 
 // The calls that take a table, if the reader accepts its bytes.
-fn of_table(numbers: &[usize; TOKENS], bytes: &[u8]) {
+fn of_table(rt: &impl Print, numbers: &[usize; TOKENS], bytes: &[u8]) {
     let mut table = [0u8; TABLE];
     let verdict = reader::read(bytes, &mut table);
     match verdict {
-        Verdict::Refused(n) => print::refused(n),
-        Verdict::Accepted => of_accepted(numbers, &table),
+        Verdict::Refused(n) => print::refused(rt, n),
+        Verdict::Accepted => of_accepted(rt, numbers, &table),
     }
 }
 
-fn of_accepted(numbers: &[usize; TOKENS], table: &[u8; TABLE])
+fn of_accepted(rt: &impl Print, numbers: &[usize; TOKENS], table: &[u8; TABLE])
     requires { IsTable table.now }
 {
     match numbers[0] {
-        READ => readings::read(table),
-        SEARCH => searches::search(table, numbers),
-        _ => chains::chain(table, numbers),
+        READ => readings::read(rt, table),
+        SEARCH => searches::search(rt, table, numbers),
+        _ => chains::chain(rt, table, numbers),
     }
 }

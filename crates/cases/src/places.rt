@@ -18,11 +18,11 @@ pub struct Place {
 }
 
 // "A chain begins in mode 0 with the start region".
-pub fn start(table: &[u8; TABLE]) -> Place
+pub fn start(rt: &impl Print, table: &[u8; TABLE]) -> Place
     requires { IsTable table.now }
     ensures { OnChain table.now 1024 result.mode result.region }
 {
-    print::text(b"start");
+    print::text(rt, b"start");
     Place {
         allowed: true,
         mode: 0,
@@ -31,13 +31,13 @@ pub fn start(table: &[u8; TABLE]) -> Place
 }
 
 // Prints a step, and makes it. "A step is one byte: 0 to 63 the move of that number, 64 delay, 65 linger."
-pub fn step(table: &[u8; TABLE], place: Place, byte: usize) -> Place
+pub fn step(rt: &impl Print, table: &[u8; TABLE], place: Place, byte: usize) -> Place
     requires { OnChain table.now 1 place.mode place.region }
     ensures { Leads table.now place.mode place.region result.mode result.region }
 {
     let mode = place.mode;
     let region = place.region;
-    print::with(b"step A", byte);
+    print::with(rt, b"step A", byte);
     if byte < table::moves(table) {
         moved(table, mode, region, byte)
     } else {

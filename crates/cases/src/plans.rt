@@ -12,14 +12,14 @@ pub const ROUTE: usize = 256;
 
 // Plans the bytes with the first words and route bytes lent; one more than there are counts from 0 again. Prints the answer, how many words are 0
 // then, how many behind them are still 7, and how many route bytes behind the steps are still 9.
-pub fn plan(numbers: &[usize; TOKENS], bytes: &[u8]) {
+pub fn plan(rt: &impl Print, numbers: &[usize; TOKENS], bytes: &[u8]) {
     let mut words = sevens();
     let mut route = [9u8; ROUTE];
     let n = numbers[1] % LETTER % 129601;
     let m = numbers[2] % LETTER % 257;
     let answer = route::plan(bytes, &mut words[..n], &mut route[..m]);
-    show(answer, &route);
-    told(&words, &route, steps(answer));
+    show(rt, answer, &route);
+    told(rt, &words, &route, steps(answer));
 }
 
 // The words before a call. Of so many, only the length is told, so that no proof looks into them.
@@ -29,34 +29,35 @@ pub fn sevens() -> [u32; WORDS]
     [7u32; WORDS]
 }
 
-pub fn told(words: &[u32; WORDS], route: &[u8; ROUTE], steps: usize) {
+pub fn told(rt: &impl Print, words: &[u32; WORDS], route: &[u8; ROUTE], steps: usize) {
     let zeros = past(words, 0, 0);
     let sevens = past(words, zeros, 7);
     let nines = past_bytes(route, steps, 9);
     print::filled(
+        rt,
         b"cleared words 0 to A, untouched to B, untouched route bytes from C to D\n",
         [zeros, sevens, steps, nines],
     );
 }
 
 // Prints the answer as `plan` does.
-fn show(answer: Answer, route: &[u8; ROUTE]) {
+fn show(rt: &impl Print, answer: Answer, route: &[u8; ROUTE]) {
     match answer {
         Answer::Route(charge, n) => {
-            print::with(b"charge A\nroute", charge as usize);
-            listed(route, n);
+            print::with(rt, b"charge A\nroute", charge as usize);
+            listed(rt, route, n);
         }
-        Answer::NoRoute => print::text(b"no route\n"),
-        Answer::Refused(n) => print::refused(n),
+        Answer::NoRoute => print::text(rt, b"no route\n"),
+        Answer::Refused(n) => print::refused(rt, n),
     }
 }
 
 // The steps of a route, of which there are never more than route bytes, and the end of their line.
-pub fn listed(route: &[u8; ROUTE], n: usize) {
+pub fn listed(rt: &impl Print, route: &[u8; ROUTE], n: usize) {
     for i in 0..n % 257 {
-        print::step(route[i]);
+        print::step(rt, route[i]);
     }
-    print::text(b"\n");
+    print::text(rt, b"\n");
 }
 
 // How many route bytes the answer fills.

@@ -6,7 +6,7 @@ use regions::nodes;
 use regions::nodes::Nodes;
 use table::TABLE;
 
-pub fn read(table: &[u8; TABLE])
+pub fn read(rt: &impl Print, table: &[u8; TABLE])
     requires { IsTable table.now }
 {
     let counts = [
@@ -15,14 +15,14 @@ pub fn read(table: &[u8; TABLE])
         table::moves(table),
         table::goal(table),
     ];
-    print::filled(b"modes A timers B moves C goal D", counts);
-    count(nodes::node_count(table));
+    print::filled(rt, b"modes A timers B moves C goal D", counts);
+    count(rt, nodes::node_count(table));
 }
 
 // E, or that it is above 65,536.
-fn count(nodes: Nodes) {
+fn count(rt: &impl Print, nodes: Nodes) {
     match nodes {
-        Nodes::Count(n) => print::with(b" nodes A\n", n),
-        Nodes::TooMany => print::text(b" too many nodes\n"),
+        Nodes::Count(n) => print::with(rt, b" nodes A\n", n),
+        Nodes::TooMany => print::text(rt, b" too many nodes\n"),
     }
 }

@@ -9,11 +9,11 @@ use crate::{print, scripts};
 use regions::{Region, nodes};
 
 // Prints what becomes of the region.
-pub fn reset(numbers: &[usize; TOKENS], bytes: &[u8]) {
+pub fn reset(rt: &impl Print, numbers: &[usize; TOKENS], bytes: &[u8]) {
     let n = scripts::timers(numbers);
     let region = given(grouped(n, three(numbers, 6, n)), numbers, bytes);
-    print::text(b"reset");
-    scripts::parts(region.reset_all((numbers[2] % 256) as u8));
+    print::text(rt, b"reset");
+    scripts::parts(rt, region.reset_all((numbers[2] % 256) as u8));
 }
 
 // The region with other whole parts and prices.

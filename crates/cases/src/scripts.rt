@@ -8,16 +8,16 @@ use crate::{operations, print};
 use regions::Region;
 
 // Prints the start region, then each step with what comes of it.
-pub fn region(numbers: &[usize; TOKENS]) {
+pub fn region(rt: &impl Print, numbers: &[usize; TOKENS]) {
     let mut region = Region::start(timers(numbers));
-    print::text(b"start");
-    parts(region);
+    print::text(rt, b"start");
+    parts(rt, region);
     for i in 2..TOKENS {
         let step = numbers[i];
         if step == 0 {
             return;
         }
-        region = stepped(region, step);
+        region = stepped(rt, region, step);
     }
 }
 
@@ -30,7 +30,7 @@ pub fn timers(numbers: &[usize; TOKENS]) -> usize
 
 // The region after a step, which is printed with what came of it. A test changes nothing; that of a condition, behind x, y and z, has its byte in
 // hexadecimal.
-fn stepped(region: Region, step: usize) -> Region
+fn stepped(rt: &impl Print, region: Region, step: usize) -> Region
     requires { Valid region × PriceRoom most_amount (view region) }
     ensures { Kept region result }
 {
@@ -38,36 +38,36 @@ fn stepped(region: Region, step: usize) -> Region
     let amount = (step % 65536) as u16;
     let after = operations::operated(region, letter, amount);
     let text = [letter, b'A' + letter / b'x' * 7];
-    print::with(&text, amount as usize);
+    print::with(rt, &text, amount as usize);
     if letter < b'w' {
-        parts(after);
+        parts(rt, after);
     } else {
-        verdict(met(after, letter, (amount % 256) as u8));
+        verdict(rt, met(after, letter, (amount % 256) as u8));
     }
     after
 }
 
 // The whole parts, the groups and the prices, and the end of their line.
-pub fn parts(region: Region) {
+pub fn parts(rt: &impl Print, region: Region) {
     let n = region.timers as usize;
     let whole = region.whole;
     let group = region.group;
-    list(b": whole", whole, n);
-    list(b" groups", group, n);
-    prices(region);
+    list(rt, b": whole", whole, n);
+    list(rt, b" groups", group, n);
+    prices(rt, region);
 }
 
-fn list(name: &[u8; 7], of: [u8; Region::MOST_TIMERS], n: usize) {
+fn list(rt: &impl Print, name: &[u8; 7], of: [u8; Region::MOST_TIMERS], n: usize) {
     let entries = [of[0] as u32, of[1] as u32, of[2] as u32];
-    print::text(name);
-    print::list(&entries, n);
+    print::text(rt, name);
+    print::list(rt, &entries, n);
 }
 
-fn prices(region: Region) {
+fn prices(rt: &impl Print, region: Region) {
     let prices = region.prices;
-    print::text(b" prices");
-    print::list(&prices, region.top as usize + 1);
-    print::text(b"\n");
+    print::text(rt, b" prices");
+    print::list(rt, &prices, region.top as usize + 1);
+    print::text(rt, b"\n");
 }
 
 // Whether the region is within one ceiling for every timer, behind w; or meets a condition on timer 0, 1 or 2, behind x, y or z.
@@ -80,10 +80,10 @@ fn met(region: Region, letter: u8, byte: u8) -> bool
     region.meets((letter % 3) as usize, byte)
 }
 
-fn verdict(met: bool) {
+fn verdict(rt: &impl Print, met: bool) {
     if met {
-        print::text(b": met\n");
+        print::text(rt, b": met\n");
     } else {
-        print::text(b": not met\n");
+        print::text(rt, b": not met\n");
     }
 }

@@ -10,22 +10,22 @@ use table::TABLE;
 const MOST_WORDS: usize = 6000;
 
 // One word more than there are counts from 0 again.
-pub fn search(table: &[u8; TABLE], numbers: &[usize; TOKENS])
+pub fn search(rt: &impl Print, table: &[u8; TABLE], numbers: &[usize; TOKENS])
     requires { IsTable table.now }
 {
     let mut words = [7u32; MOST_WORDS];
     let n = numbers[1] % LETTER % 6001;
-    shown(table, &mut words[..n]);
+    shown(rt, table, &mut words[..n]);
 }
 
-fn shown(table: &[u8; TABLE], words: &mut [u32])
+fn shown(rt: &impl Print, table: &[u8; TABLE], words: &mut [u32])
     requires { IsTable table.now }
 {
-    answered(searched(table, words));
-    list(words);
+    answered(rt, searched(table, words));
+    list(rt, words);
     search::clear(words, table);
-    print::text(b"cleared");
-    list(words);
+    print::text(rt, b"cleared");
+    list(rt, words);
 }
 
 // The search for the table's own goal.
@@ -38,14 +38,14 @@ pub fn searched(table: &[u8; TABLE], words: &mut [u32]) -> Searched
 }
 
 // The answer, and what the words are listed behind.
-fn answered(answer: Searched) {
+fn answered(rt: &impl Print, answer: Searched) {
     match answer {
-        Searched::Refused(n) => print::with(b"refused A\nwords", n as usize),
-        Searched::Nodes(n) => print::with(b"nodes A\nwords", n),
+        Searched::Refused(n) => print::with(rt, b"refused A\nwords", n as usize),
+        Searched::Nodes(n) => print::with(rt, b"nodes A\nwords", n),
     }
 }
 
-fn list(words: &[u32]) {
-    print::list(words, words.len());
-    print::text(b"\n");
+fn list(rt: &impl Print, words: &[u32]) {
+    print::list(rt, words, words.len());
+    print::text(rt, b"\n");
 }

@@ -9,14 +9,14 @@ use writer::Written;
 const ROOM: usize = 1024;
 
 // Fills a form from the table, if it is one, sets bytes of it, and writes it into the first bytes of the destination.
-pub fn write(numbers: &[usize; TOKENS], bytes: &[u8]) {
+pub fn write(rt: &impl Print, numbers: &[usize; TOKENS], bytes: &[u8]) {
     let mut form = [0u8; FORM];
     form::fill(bytes, &mut form);
     set(numbers, &mut form);
     let mut destination = [9u8; ROOM];
     let n = numbers[1] % LETTER % 1025;
     let answer = writer::write(&form, &mut destination[..n]);
-    show(answer, &destination);
+    show(rt, answer, &destination);
 }
 
 // Sets the byte at a place to a value, for each pair of numbers; one more than there are counts from 0 again.
@@ -31,17 +31,17 @@ fn set(numbers: &[usize; TOKENS], form: &mut [u8; FORM]) {
 }
 
 // Prints the bytes that were written, or the refusal, and how many of those behind are still 9.
-fn show(answer: Written, destination: &[u8; ROOM]) {
+fn show(rt: &impl Print, answer: Written, destination: &[u8; ROOM]) {
     let n = size(answer);
     match answer {
         Written::Bytes(_) => {
-            print::with(b"bytes A:", n);
-            listed(destination, n);
+            print::with(rt, b"bytes A:", n);
+            listed(rt, destination, n);
         }
-        Written::Refused(r) => print::refused(r),
+        Written::Refused(r) => print::refused(rt, r),
     }
     let nines = past_bytes(destination, n, 9);
-    print::filled(b"untouched from A to B\n", [n, nines, 0, 0]);
+    print::filled(rt, b"untouched from A to B\n", [n, nines, 0, 0]);
 }
 
 // How many bytes the answer fills.
@@ -53,9 +53,9 @@ fn size(answer: Written) -> usize {
 }
 
 // The bytes of a table, and the end of their line.
-fn listed(bytes: &[u8; ROOM], n: usize) {
+fn listed(rt: &impl Print, bytes: &[u8; ROOM], n: usize) {
     for i in 0..n % 1025 {
-        print::byte(bytes[i]);
+        print::byte(rt, bytes[i]);
     }
-    print::text(b"\n");
+    print::text(rt, b"\n");
 }

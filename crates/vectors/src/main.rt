@@ -4,31 +4,34 @@
 // same with a byte left over; and one whose charge is 140 times 65,535.
 #![tactic(auto)]
 
-use libc::{STDIN_FILENO, STDOUT_FILENO};
 use report::TEXT;
+use std::io;
+use std::io::Read;
 
-fn main() {
-    let mut bytes = io::large_buffer();
-    let count = io::read_full(STDIN_FILENO, &mut bytes);
-    each(&bytes[..count]);
+// The first 65,536 bytes are read.
+fn main(rt: HostRuntime) -> io::Result<()> {
+    let mut bytes = Vec::new(rt.alloc());
+    rt.stdin().take(65536).read_to_end(&mut bytes)?;
+    each(&rt, &bytes)
 }
 
 // The tables one after another, as long as there is a whole one.
-fn each(bytes: &[u8]) {
+fn each(rt: &impl Print, bytes: &[u8]) -> io::Result<()> {
     let mut rest = bytes;
     while 2 <= rest.len() {
         let length = rest[0] as usize + 256 * (rest[1] as usize);
         let end = 2 + length;
         if rest.len() < end {
-            return;
+            return Ok(());
         }
-        one(&rest[2..end]);
+        one(rt, &rest[2..end])?;
         rest = &rest[end..];
     }
+    Ok(())
 }
 
-fn one(table: &[u8]) {
+fn one(rt: &impl Print, table: &[u8]) -> io::Result<()> {
     let mut text = [0u8; TEXT];
     let length = report::plan_text(table, &mut text);
-    io::write_all(STDOUT_FILENO, &text[..length]);
+    rt.write_all(&text[..length])
 }

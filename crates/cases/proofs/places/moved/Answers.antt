@@ -1,0 +1,45 @@
+-- `cases::places::moved` meets its contract.
+-- Assumes nothing.
+use mathlib.Core.Path.{sym, subst}
+use Prim.Native.Nat.{ℕ, ◌<◌}
+use native.Mathlib.Omega.{arith}
+use lib.ListN.{length}
+use Rattle.table.specs.Held.{automaton_of}
+use Rattle.table.specs.Theorems.Access.{target_below}
+use Rattle.cases.proofs.Steps.{move-few, two-operations, operation-ready, second-ready}
+use Rattle.cases.proofs.places.moved.Goals as goal
+
+pub overflow_add-e : goal.overflow_add-e
+overflow_add-e c =
+    let few : c.args.e < 64 = move-few c.args.table.now c.requires.0.is-table c.args.e c.requires.1 in
+    omega (arith, few)
+
+pub fits-open-requires : goal.fits-open-requires
+fits-open-requires c =
+    let few : c.args.e < 64 = move-few c.args.table.now c.requires.0.is-table c.args.e c.requires.1 in
+    (c.requires.0.is-table, c.requires.0.valid, omega (arith, few))
+
+pub resets-requires : goal.resets-requires
+resets-requires c = (c.requires.0.is-table, c.requires.1)
+
+pub operated-cleared-requires : goal.operated-cleared-requires
+operated-cleared-requires c = operation-ready c.requires.0
+
+pub price-requires : goal.price-requires
+price-requires c = (c.requires.0.is-table, c.requires.1)
+
+pub operated-charged-requires : goal.operated-charged-requires
+operated-charged-requires c = second-ready c.requires.0 c.operated-cleared.ensures
+
+pub source-requires : goal.source-requires
+source-requires c = (c.requires.0.is-table, c.requires.1)
+
+pub target-requires : goal.target-requires
+target-requires c = (c.requires.0.is-table, c.requires.1)
+
+pub returns : goal.returns
+returns c =
+    let t = c.args.table.now in
+    let below = target_below t c.requires.0.is-table c.args.e c.requires.1 in
+    λ n o. two-operations o c.operated-cleared.ensures c.operated-charged.ensures
+    (subst (λ (m : ℕ). m < length (automaton_of t).modes) (sym c.target.ensures) below)

@@ -4,7 +4,7 @@
  * that comes to it (planner_plan); and, for a table that has neither < nor >, when to make which move by the wall clock to be charged
  * exactly that (planner_timetable).
  *
- * Link libplanner.a. For x86-64 `rt staticlib planner` writes it to target/staticlib/; for Cortex-M0+ and M4 `unit/build` writes it to
+ * Link libplanner.a. For x86-64 `unit/bitcode` writes it to target/staticlib/; for Cortex-M0+ and M4 `unit/build` writes it to
  * target/unit/m0plus/ and target/unit/m4/. It needs memcpy and memset, on Cortex-M also libgcc, no heap and no operating system: it works
  * in the memory that the caller lends, and on the stack (docs/BENCH.md and docs/UNIT.md say how much).
  *

@@ -84,7 +84,7 @@ def main(clang, triple, source, target, header):
     for line in layout_and_triple(clang, triple):
         ir, count = re.subn(r'^%s = .*$' % line.split(' = ')[0], line, ir, flags=re.M)
         need(count == 1, 'no line for ' + line)
-    ir = re.sub(r' "(target-cpu|target-features|tune-cpu|probe-stack)"="[^"]*"', '', ir)
+    ir = re.sub(r' "(target-cpu|target-features|tune-cpu|probe-stack|stack-probe-size)"="[^"]*"', '', ir)
     need('x86' not in ir, 'something of x86 is left')
     for name in APART:
         ir = keep_apart(ir, name)

@@ -8,7 +8,7 @@ use native.Mathlib.Decide.{ℕ_discrete, dec_lt}
 use native.Mathlib.Omega.{arith}
 use Rattle.semantics.specs.Order.{Cost}
 use Rattle.semantics.specs.Automaton.{mode_at, move_at}
-use Rattle.semantics.specs.Run.{move, wait, after}
+use Rattle.semantics.specs.Run.{wait, after}
 use Rattle.semantics.specs.Graph.Path.{Edge, Leaves, infinity, charge_at}
 use Rattle.table.specs.Held.{automaton_of}
 use Rattle.rules.specs.Rules.{none}

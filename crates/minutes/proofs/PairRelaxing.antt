@@ -12,7 +12,6 @@ use lib.ListN.{length, get_or}
 use Rattle.semantics.specs.Order.{Cost}
 use Rattle.semantics.specs.Automaton.{timers, mode_at}
 use Rattle.semantics.specs.Run.{wait, after}
-use Rattle.semantics.specs.Timetable.{allowed}
 use Rattle.semantics.specs.Graph.Path.{Edge, Leaves}
 use Rattle.semantics.specs.Timetables.Allowed.{allowed-iff, stays-true}
 use Rattle.semantics.specs.Timetables.Edges.{edge_of, pair-few}

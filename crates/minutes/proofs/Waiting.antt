@@ -8,7 +8,6 @@ use Prim.Native.Nat.{ℕ, zero, suc, ◌+◌, ◌*◌, ◌≤◌, ◌<◌}
 use native.Mathlib.Omega.{arith}
 use lib.ListN.{get_or}
 use Rattle.semantics.specs.Automaton.{mode_at}
-use Rattle.semantics.specs.Timetable.{stays}
 use Rattle.arrays.specs.Arrays.{map_to}
 use Rattle.table.specs.Held.{automaton_of}
 use Rattle.rules.specs.Rules.{InRow}

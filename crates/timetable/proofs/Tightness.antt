@@ -10,7 +10,7 @@ use native.Mathlib.Decide.{ℕ_discrete, dec_lt}
 use native.Mathlib.Omega.{arith}
 use lib.ListN.{length}
 use Rattle.semantics.specs.Automaton.{mode_at, move_at}
-use Rattle.semantics.specs.Run.{move, wait, after}
+use Rattle.semantics.specs.Run.{wait, after}
 use Rattle.semantics.specs.Graph.Path.{Edge, Leaves, infinity, charge_at}
 use Rattle.semantics.specs.Graph.MinuteGraph.{minute_graph}
 use Rattle.semantics.specs.Timetables.States.{state_at-state}

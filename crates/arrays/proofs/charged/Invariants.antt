@@ -1,12 +1,8 @@
 -- `arrays::charged` meets its contract. The loop has charged the first i prices.
 -- Assumes nothing.
-use mathlib.Core.Path.{◌≡◌, ap, ◌∙◌}
-use Prim.Native.Nat.{ℕ, ◌+◌, ◌-◌, ◌≤◌, ◌<◌}
-use native.Mathlib.Omega.{arith}
-use borrow.Author.Rules.{rules}
-use lib.ListN.{length}
+use mathlib.Core.Path.{◌≡◌}
+use Prim.Native.Nat.{ℕ, ◌+◌, ◌-◌, ◌≤◌}
 use Rattle.arrays.specs.Arrays.{map_to}
-use Rattle.arrays.proofs.Turns.{map_to-more}
 use Rattle.arrays.proofs.charged.Given as goal
 
 abbrev pub invariant-loop-i : goal.invariant-loop-i

@@ -1,8 +1,7 @@
 -- `arrays::count_of` meets its contract. The loop has counted in the first i groups.
 -- Assumes nothing.
 use mathlib.Core.Path.{◌≡◌, ap, ◌∙◌}
-use mathlib.Core.Logic.{⊎_elim}
-use Prim.Native.Nat.{ℕ, ◌+◌, ◌-◌, ◌≤◌, ◌<◌}
+use Prim.Native.Nat.{ℕ, ◌+◌, ◌<◌}
 use native.Mathlib.Omega.{arith}
 use borrow.Author.Rules.{rules}
 use lib.ListN.{length, take}
@@ -20,7 +19,7 @@ loop-i-preserved c =
     let h : i < length l = search rules in (
       search rules,
       elim c.if-group-i.branch [
-        then-group-i w ↦ w.found-is ∙ ap (λ (m : ℕ). m + 1) e ∙ count-hit g i l h w.if-group-i.true
+        | then-group-i w ↦ w.found-is ∙ ap (λ (m : ℕ). m + 1) e ∙ count-hit g i l h w.if-group-i.true
         | else-group-i w ↦ w.found-is ∙ e ∙ count-miss g i l h w.if-group-i.false
       ],
       elim c.if-group-i.branch [ then-group-i w ↦ omega arith | else-group-i w ↦ omega arith ],

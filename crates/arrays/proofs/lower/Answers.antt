@@ -1,6 +1,5 @@
 -- `arrays::lower` meets its contract.
 -- Assumes nothing.
-use borrow.Author.Rules.{rules}
 use borrow.Author.Tests.{lt-ltb, le-ltb}
 use native.Mathlib.Numerals.{sub-one}
 use Rattle.arrays.proofs.lower.Goals as goal

@@ -1,13 +1,8 @@
 -- `arrays::raised` meets its contract. The loop has raised the first i groups.
 -- Assumes nothing.
-use mathlib.Core.Path.{◌≡◌, ap, ◌∙◌}
-use Prim.Native.Nat.{ℕ, suc, ◌-◌, ◌≤◌, ◌<◌}
-use native.Mathlib.Numerals.{add-one}
-use native.Mathlib.Omega.{arith}
-use borrow.Author.Rules.{rules}
-use lib.ListN.{length, get_or}
+use mathlib.Core.Path.{◌≡◌}
+use Prim.Native.Nat.{suc, ◌-◌, ◌≤◌}
 use Rattle.arrays.specs.Arrays.{map_to}
-use Rattle.arrays.proofs.Turns.{map_to-more}
 use Rattle.arrays.proofs.raised.Given as goal
 
 abbrev pub invariant-loop-i : goal.invariant-loop-i

@@ -1,6 +1,5 @@
 -- `arrays::rise` meets its contract.
 -- Assumes nothing.
-use borrow.Author.Rules.{rules}
 use borrow.Author.Tests.{eq-eqb, ne_eqb}
 use native.Mathlib.Numerals.{add-one}
 use Rattle.arrays.proofs.rise.Goals as goal

@@ -1,7 +1,6 @@
 -- `cases::of_table` meets its contract: what is accepted is a table.
 -- Assumes nothing.
 use native.Mathlib.Omega.{arith}
-use borrow.Author.Rules.{rules}
 use Rattle.reader.specs.Theorems.Accepted.{accepted-table}
 use Rattle.cases.proofs.of_table.Goals as goal
 

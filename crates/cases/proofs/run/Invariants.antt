@@ -1,8 +1,6 @@
 -- `cases::run` meets its contract. Lines begin within what was looked at.
 -- Assumes nothing.
-use mathlib.Core.Logic.{⊎_elim}
 use Prim.Native.Nat.{◌-◌, ◌≤◌}
-use native.Mathlib.Omega.{arith}
 use Rattle.cases.proofs.run.Given as goal
 
 abbrev pub invariant-loop-at : goal.invariant-loop-at

@@ -1,8 +1,6 @@
 -- `closed::is_closed` meets its contract.
 -- Assumes nothing.
 use native.Mathlib.Omega.{arith}
-use borrow.Author.Rules.{rules}
-use borrow.Author.Tests.{not-true, not-false}
 use Rattle.table.specs.Theorems.Access.{table-length}
 use Rattle.closed.proofs.Closing.{modes-few, moves-few, modes-not, then-moves}
 use Rattle.closed.proofs.is_closed.Goals as goal

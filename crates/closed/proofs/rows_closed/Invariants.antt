@@ -1,16 +1,10 @@
 -- `closed::rows_closed` meets its contract. The loop's invariant: the rows of the first i records are closed.
 -- Assumes nothing.
-use mathlib.Core.Path.{◌≡◌, refl, sym, ap, ◌∙◌}
-use mathlib.Core.Bool.{Bool, true}
-use mathlib.Core.List.{List}
-use Prim.Native.Nat.{ℕ, ◌+◌, ◌*◌, ◌-◌, ◌≤◌}
-use native.Mathlib.Numerals.{add-one}
-use native.Mathlib.Omega.{arith}
-use borrow.Author.Tests.{not-true, not-false}
+use mathlib.Core.Path.{◌≡◌}
+use mathlib.Core.Bool.{true}
+use Prim.Native.Nat.{◌-◌, ◌≤◌}
 use lib.ListN.{drop}
-use lib.Seq.{drop-drop}
 use Rattle.closed.specs.Closed.{rows_closed}
-use Rattle.closed.proofs.Closing.{row_closed, rows_more, rows-fail}
 use Rattle.closed.proofs.rows_closed.Given as goal
 
 abbrev pub invariant-loop-i : goal.invariant-loop-i

@@ -3,8 +3,8 @@
 -- Assumes nothing.
 use mathlib.Core.Path.{refl}
 use native.Mathlib.Omega.{arith}
-use Rattle.search.proofs.Turning.{turns_left, turn-starts, turn-none}
-use Rattle.minutes.proofs.Settling.{Turn, AtNode, states-ready, node-room, turn-goal, pairs-ready, settle-ready, next-room, turn-next, turn-less}
+use Rattle.search.proofs.Turning.{turn-starts, turn-none}
+use Rattle.minutes.proofs.Settling.{AtNode, states-ready, node-room, turn-goal, pairs-ready, settle-ready, next-room, turn-next, turn-less}
 use Rattle.minutes.proofs.settle_all.Goals.{After-state_at-at}
 use Rattle.minutes.proofs.settle_all.Goals as goal
 

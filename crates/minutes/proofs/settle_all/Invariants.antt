@@ -1,10 +1,8 @@
 -- `minutes::settle_all` meets its contract. The loop's invariant: states were settled up to some key, and the first of the pending ones is next. The
 -- measure is how many states are not settled.
 -- Assumes nothing.
-use mathlib.Core.Path.{refl}
-use native.Mathlib.Omega.{arith}
-use Rattle.search.proofs.Turning.{turns_left, turn-starts, turn-none}
-use Rattle.minutes.proofs.Settling.{Turn, AtNode, states-ready, node-room, turn-goal, pairs-ready, settle-ready, next-room, turn-next, turn-less}
+use Rattle.search.proofs.Turning.{turns_left}
+use Rattle.minutes.proofs.Settling.{Turn}
 use Rattle.minutes.proofs.settle_all.Given as goal
 
 abbrev pub invariant-loop-node : goal.invariant-loop-node

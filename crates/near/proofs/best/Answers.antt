@@ -1,17 +1,20 @@
 -- `near::best` meets its contract. The loop's invariant: charge and steps are the least of the mode's nodes before this one.
 -- Assumes nothing.
 use mathlib.Core.Path.{◌≡◌, refl}
-use mathlib.Core.Logic.{⊎_elim, inl, inr}
-use Prim.Native.Nat.{ℕ, ◌+◌, ◌*◌, ◌-◌, ◌/◌, ◌≤◌, ◌<◌}
+use mathlib.Core.Logic.{inl, inr}
+use Prim.Native.Nat.{ℕ, ◌+◌, ◌*◌, ◌/◌, ◌≤◌, ◌<◌}
 use native.Mathlib.Decide.{ℕ_discrete}
 use native.Mathlib.Nat.{div-le_self}
 use native.Mathlib.Omega.{arith}
 use borrow.Author.Rules.{rules}
 use Rattle.semantics.specs.Graph.Path.{infinity, charge_at}
 use Rattle.space.specs.Laws.Shares.{share-below}
-use Rattle.near.proofs.Nearest.{Least, least-none, least-cheaper, least-fewer, least_kept, is-best, is-best-none}
+use Rattle.near.proofs.Nearest.{least-none, least-cheaper, least-fewer, least_kept, is-best, is-best-none}
 use Rattle.near.proofs.best.Goals.{
-  then-c-charge, else-c-charge+then-c-charge-2+then-n-steps, else-c-charge+then-c-charge-2+else-n-steps, else-c-charge+else-c-charge-2
+  then-c-charge,
+  else-c-charge+then-c-charge-2+then-n-steps,
+  else-c-charge+then-c-charge-2+else-n-steps,
+  else-c-charge+else-c-charge-2,
 }
 use Rattle.near.proofs.best.Goals as goal
 
@@ -77,15 +80,15 @@ loop-v-preserved c =
       omega arith,
       omega arith,
       elim c.if-c-charge.branch [
-        then-c-charge w ↦ rw (w.charge-is, w.steps-is) (least-cheaper ws first v charge steps inv.3 inv.5 w.if-c-charge.true)
+        | then-c-charge w ↦ rw (w.charge-is, w.steps-is) (least-cheaper ws first v charge steps inv.3 inv.5 w.if-c-charge.true)
         | else-c-charge+then-c-charge-2+then-n-steps w ↦
-        rw (w.charge-is, w.steps-is) (least-fewer ws first v charge steps inv.3 inv.5 blank w.if-c-charge-2.true w.if-n-steps.true)
+            rw (w.charge-is, w.steps-is) (least-fewer ws first v charge steps inv.3 inv.5 blank w.if-c-charge-2.true w.if-n-steps.true)
         | else-c-charge+then-c-charge-2+else-n-steps w ↦
-        rw (w.charge-is, w.steps-is)
-        (least_kept ws first v charge steps inv.3 inv.5 most (inr (omega (arith, w.if-c-charge-2.true), w.if-n-steps.false)))
+            rw (w.charge-is, w.steps-is)
+            (least_kept ws first v charge steps inv.3 inv.5 most (inr (omega (arith, w.if-c-charge-2.true), w.if-n-steps.false)))
         | else-c-charge+else-c-charge-2 w ↦
-        let d = dearer charge (charge_at ws v) w.if-c-charge.false w.if-c-charge-2.false in
-        rw (w.charge-is, w.steps-is) (least_kept ws first v charge steps inv.3 inv.5 most (inl d))
+            let d = dearer charge (charge_at ws v) w.if-c-charge.false w.if-c-charge-2.false in
+            rw (w.charge-is, w.steps-is) (least_kept ws first v charge steps inv.3 inv.5 most (inl d))
       ],
     )
 

@@ -1,5 +1,4 @@
 -- `planner::planner_lend` meets its contract. Assumes nothing.
-use borrow.Author.Rules.{rules}
 use Rattle.planner.proofs.Telling.{lend-refused, lend-memory}
 use Rattle.planner.proofs.planner_lend.Goals as goal
 

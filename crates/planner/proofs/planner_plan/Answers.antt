@@ -1,5 +1,4 @@
 -- `planner::planner_plan` meets its contract. Assumes nothing.
-use borrow.Author.Rules.{rules}
 use Rattle.planner.proofs.Telling.{told-refused, told_none, told-route}
 use Rattle.planner.proofs.planner_plan.Goals as goal
 

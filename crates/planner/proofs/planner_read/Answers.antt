@@ -1,6 +1,5 @@
 -- `planner::planner_read` meets its contract. Assumes nothing.
 use Rattle.planner.proofs.Writing.{fill-refused, fill-accepted}
-use borrow.Author.Rules.{rules}
 use Rattle.planner.proofs.planner_read.Goals as goal
 
 pub returns-in-Refused : goal.returns-in-Refused

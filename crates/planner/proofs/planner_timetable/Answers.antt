@@ -1,5 +1,4 @@
 -- `planner::planner_timetable` meets its contract. Assumes nothing.
-use borrow.Author.Rules.{rules}
 use Rattle.planner.proofs.Timing.{timed-refused, timed-none, timed-timetable}
 use Rattle.planner.proofs.planner_timetable.Goals as goal
 

@@ -1,6 +1,5 @@
 -- `planner::planner_write` meets its contract. Assumes nothing.
 use Rattle.planner.proofs.Writing.{write-refused, write_bytes}
-use borrow.Author.Rules.{rules}
 use Rattle.planner.proofs.planner_write.Goals as goal
 
 pub returns-in-Refused : goal.returns-in-Refused

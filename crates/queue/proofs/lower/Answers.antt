@@ -2,10 +2,7 @@
 use Prim.Native.Nat.{◌+◌, ◌*◌}
 use native.Mathlib.Omega.{arith}
 use lib.ListN.{length-set}
-use Rattle.semantics.specs.Order.{cost}
-use Rattle.queue.specs.Laws.Lows.{lowered-length}
 use Rattle.queue.proofs.Storing.{cost-words, lowered}
-use borrow.Author.Rules.{rules}
 use Rattle.queue.proofs.lower.Goals as goal
 
 pub overflow_mul-words-2 : goal.overflow_mul-words-2

@@ -2,9 +2,8 @@
 use mathlib.Core.Path.{sym}
 use Prim.Native.Nat.{◌≤◌}
 use native.Mathlib.Omega.{arith}
-use Rattle.queue.specs.Laws.Lows.{costs-length}
 use Rattle.queue.proofs.Slots.{seat}
-use Rattle.queue.proofs.GoingUp.{Rising, rising-start, rising-up, rising-stop, rising-end}
+use Rattle.queue.proofs.GoingUp.{rising-start, rising-up, rising-stop, rising-end}
 use Rattle.queue.proofs.raise.Goals as goal
 
 pub key-own-requires : goal.key-own-requires

@@ -1,10 +1,5 @@
 -- `raise` meets its contract. The loop's invariant: the node has come up to this place. Assumes nothing.
-use mathlib.Core.Path.{sym}
-use Prim.Native.Nat.{◌≤◌}
-use native.Mathlib.Omega.{arith}
-use Rattle.queue.specs.Laws.Lows.{costs-length}
-use Rattle.queue.proofs.Slots.{seat}
-use Rattle.queue.proofs.GoingUp.{Rising, rising-start, rising-up, rising-stop, rising-end}
+use Rattle.queue.proofs.GoingUp.{Rising}
 use Rattle.queue.proofs.raise.Given as goal
 
 abbrev pub invariant-loop-place : goal.invariant-loop-place

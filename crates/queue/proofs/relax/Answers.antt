@@ -1,11 +1,10 @@
 -- `relax` meets its contract. Assumes nothing.
 use mathlib.Core.Path.{sym, ◌∙◌}
-use mathlib.Core.Logic.{inl, inr, ⊎_elim}
+use mathlib.Core.Logic.{inl, inr}
 use native.Mathlib.Omega.{arith}
 use Rattle.semantics.specs.Order.{cost, ◌≺◌}
 use Rattle.queue.specs.Queue.{cost_in}
 use Rattle.queue.proofs.Relaxing.{no_less, is-less, relax-passed, relax-taken}
-use borrow.Author.Rules.{rules}
 use Rattle.queue.proofs.relax.Goals.{then-own-charge-2+else-steps_of-steps, else-own-charge-2}
 use Rattle.queue.proofs.relax.Goals as goal
 
@@ -32,7 +31,7 @@ lower-requires c =
     let less : cost c.args.charge c.args.steps ≺ cost_in c.args.nodes c.args.words.now c.args.node =
     is-less c.args.nodes c.args.node c.args.charge c.args.steps c.args.words.now c.requires
     (elim c.if-own-charge-2.branch [
-      then-own-charge-2+else-steps_of-steps w ↦ inr (sym w.if-own-charge-2.true ∙ own, omega (arith, w.steps_of.ensures, w.if-steps_of-steps.false))
+      | then-own-charge-2+else-steps_of-steps w ↦ inr (sym w.if-own-charge-2.true ∙ own, omega (arith, w.steps_of.ensures, w.if-steps_of-steps.false))
       | else-own-charge-2 w ↦ inl (omega (arith, own, c.if-own-charge.false, w.if-own-charge-2.false))
     ]) in
     record { relax = c.requires; less = less }
@@ -43,7 +42,7 @@ returns c =
     let less : cost c.args.charge c.args.steps ≺ cost_in c.args.nodes c.args.words.now c.args.node =
     is-less c.args.nodes c.args.node c.args.charge c.args.steps c.args.words.now c.requires
     (elim c.if-own-charge-2.branch [
-      then-own-charge-2+else-steps_of-steps w ↦ inr (sym w.if-own-charge-2.true ∙ own, omega (arith, w.steps_of.ensures, w.if-steps_of-steps.false))
+      | then-own-charge-2+else-steps_of-steps w ↦ inr (sym w.if-own-charge-2.true ∙ own, omega (arith, w.steps_of.ensures, w.if-steps_of-steps.false))
       | else-own-charge-2 w ↦ inl (omega (arith, own, c.if-own-charge.false, w.if-own-charge-2.false))
     ]) in
     let a = c.args in

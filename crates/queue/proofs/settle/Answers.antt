@@ -5,9 +5,8 @@ use Prim.Native.Nat.{ℕ, ◌/◌}
 use native.Mathlib.Omega.{arith}
 use Rattle.queue.specs.Queue.{lows, slot_at, key}
 use Rattle.queue.specs.Playing.{Seat, put}
-use Rattle.queue.specs.Laws.Lows.{costs-length}
 use Rattle.queue.proofs.Slots.{seat-words, key-lows, seat, put-puts}
-use Rattle.queue.proofs.Replays.{Taken, Replayed, replayed-start, beside-seated, match-seated, replayed-up, replayed-end}
+use Rattle.queue.proofs.Replays.{Taken, replayed-start, beside-seated, match-seated, replayed-up, replayed-end}
 use Rattle.queue.proofs.settle.Goals.{then-ahead, else-ahead}
 use Rattle.queue.proofs.settle.Goals as goal
 
@@ -60,7 +59,7 @@ set_slot-requires c =
     let told = c.ahead.ensures in
     let taken : Taken c.loop-place.words c.loop-place.best c.loop-place.least c.winner-other.result c.if-ahead.best c.if-ahead.least =
     elim c.if-ahead.branch [
-      then-ahead w ↦ inl (w.best-is, w.least-is ∙ w.key-least.ensures, told.ahead w.if-ahead.true)
+      | then-ahead w ↦ inl (w.best-is, w.least-is ∙ w.key-least.ensures, told.ahead w.if-ahead.true)
       | else-ahead w ↦ inr (w.best-is, w.least-is, told.behind w.if-ahead.false)
     ] in
     let loop = c.loop-place in
@@ -77,7 +76,7 @@ loop-place-preserved c =
     let told = c.ahead.ensures in
     let taken : Taken c.loop-place.words c.loop-place.best c.loop-place.least c.winner-other.result c.if-ahead.best c.if-ahead.least =
     elim c.if-ahead.branch [
-      then-ahead w ↦ inl (w.best-is, w.least-is ∙ w.key-least.ensures, told.ahead w.if-ahead.true)
+      | then-ahead w ↦ inl (w.best-is, w.least-is ∙ w.key-least.ensures, told.ahead w.if-ahead.true)
       | else-ahead w ↦ inr (w.best-is, w.least-is, told.behind w.if-ahead.false)
     ] in
     let loop = c.loop-place in

@@ -1,13 +1,7 @@
 -- `settle` meets its contract. The loop's invariant: the matches up to this place were played again, and slot 0 stays. Assumes nothing.
-use mathlib.Core.Path.{◌≡◌, refl, sym, ◌∙◌}
-use mathlib.Core.Logic.{inl, inr, ⊎_elim}
-use Prim.Native.Nat.{ℕ, ◌/◌}
-use native.Mathlib.Omega.{arith}
+use mathlib.Core.Path.{◌≡◌}
 use Rattle.queue.specs.Queue.{lows, slot_at, key}
-use Rattle.queue.specs.Playing.{Seat, put}
-use Rattle.queue.specs.Laws.Lows.{costs-length}
-use Rattle.queue.proofs.Slots.{seat-words, key-lows, seat, put-puts}
-use Rattle.queue.proofs.Replays.{Taken, Replayed, replayed-start, beside-seated, match-seated, replayed-up, replayed-end}
+use Rattle.queue.proofs.Replays.{Replayed}
 use Rattle.queue.proofs.settle.Given as goal
 
 abbrev pub invariant-loop-place : goal.invariant-loop-place

@@ -1,7 +1,6 @@
 -- `winner` meets its contract. Assumes nothing.
 use mathlib.Core.Path.{◌∙◌, sym}
 use native.Mathlib.Omega.{arith}
-use borrow.Author.Rules.{rules}
 use Rattle.queue.proofs.Winning.{won-slot, won-unreached, won-pending, won-settled}
 use Rattle.queue.proofs.winner.Goals as goal
 

@@ -13,9 +13,6 @@ put_refusal-requires c =
     let short = lines-short (Refused n) [] (omega arith) (λ i l. absurd (omega arith)) in
     omega (arith, c.requires, short)
 
-pub put_text-requires : goal.put_text-requires
-put_text-requires c = omega (arith, c.requires)
-
 pub put_route-requires : goal.put_route-requires
 put_route-requires c =
     let charge = c.in-Route.charge in

@@ -18,9 +18,6 @@ loop-i-init c = (omega arith, omega arith, refl, put-none c.args.at c.args.out.n
 pub bounds-route-i : goal.bounds-route-i
 bounds-route-i c = omega (arith, ltb-true)
 
-pub overflow_cast-route : goal.overflow_cast-route
-overflow_cast-route c = omega (arith, c.type_inv.route c.loop-i.i)
-
 pub put_field-next-requires : goal.put_field-next-requires
 put_field-next-requires c =
     let a = c.args in
@@ -41,18 +38,12 @@ loop-i-preserved c =
       rw (add-one h.i, steps-more h.i a.route.now l) (put_both h.invariant.3 room c.put_field-next.ensures),
     )
 
-pub shape_of-out-else-i-route : goal.shape_of-out-else-i-route
-shape_of-out-else-i-route c = c.loop-i.invariant.2
-
 pub returns-else-i-route : goal.returns-else-i-route
 returns-else-i-route c =
     let a = c.args in
     let i = c.loop-i.i in
     let all : length a.route.now ≤ i = omega (arith, ltb-false) in
     rw (take_all a.n a.route.now (omega arith) ∙ sym (take_all i a.route.now all)) c.loop-i.invariant.3
-
-pub shape_of-out-after-loop-i : goal.shape_of-out-after-loop-i
-shape_of-out-after-loop-i c = c.loop-i.invariant.2
 
 pub returns-after-loop-i : goal.returns-after-loop-i
 returns-after-loop-i c =

@@ -8,7 +8,9 @@ use Rattle.report.specs.Put.{Put}
 use Rattle.report.proofs.put_steps.Given as goal
 
 abbrev pub invariant-loop-i : goal.invariant-loop-i
-invariant-loop-i l = (l.i ≤ l.n) × (l.i ≤ length l.route) × (length l.out ≡ length l.initial.out) × Put (step_texts (take l.i l.route)) l.at l.initial.out l.next l.out
+invariant-loop-i l =
+    (l.i ≤ l.n) × (l.i ≤ length l.route)
+    × (length l.out ≡ length l.initial.out) × Put (step_texts (take l.i l.route)) l.at l.initial.out l.next l.out
 
 abbrev pub decreases-loop-i : goal.decreases-loop-i
 decreases-loop-i l = l.n - l.i

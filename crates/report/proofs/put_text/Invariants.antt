@@ -7,7 +7,9 @@ use lib.Seq.{paste}
 use Rattle.report.proofs.put_text.Given as goal
 
 abbrev pub invariant-loop-i : goal.invariant-loop-i
-invariant-loop-i l = (l.i ≤ length l.text) × (l.i-end ≡ length l.text) × (l.out ≡ paste l.initial.out l.at l.text l.i) × (length l.out ≡ length l.initial.out)
+invariant-loop-i l =
+    (l.i ≤ length l.text) × (l.i-end ≡ length l.text) × (l.out ≡ paste l.initial.out l.at l.text l.i)
+    × (length l.out ≡ length l.initial.out)
 
 abbrev pub decreases-loop-i : goal.decreases-loop-i
 decreases-loop-i l = l.i-end - l.i

@@ -1,10 +1,9 @@
 -- `route::memory_of` meets its contract. Assumes nothing.
-use borrow.Author.Rules.{rules}
 use mathlib.Core.Path.{sym, ◌∙◌}
 use native.Mathlib.Omega.{arith}
 use Rattle.table.specs.Held.{automaton_of}
 use Rattle.space.specs.Laws.Shares.{start-below}
-use Rattle.search.specs.Laws.Answers.{Counts, nodes-counted}
+use Rattle.search.specs.Laws.Answers.{nodes-counted}
 use Rattle.route.proofs.Lending.{memory-refused, memory-counted}
 use Rattle.route.proofs.memory_of.Goals as goal
 

@@ -1,10 +1,8 @@
 -- `route::plan` meets its contract. Assumes nothing.
-use borrow.Author.Rules.{rules}
 use mathlib.Core.Path.{◌∙◌}
 use Prim.Native.Nat.{ℕ, ◌<◌}
 use native.Mathlib.Omega.{arith}
 use lib.ListN.{get_or}
-use Rattle.table.specs.Held.{IsTable}
 use Rattle.reader.specs.Theorems.Accepted.{accepted-table, accepted-read, rejected-read}
 use Rattle.route.proofs.Planning.{outcome-keeps, planned-refused, planned-accepted}
 use Rattle.route.proofs.plan.Goals.{After-read-verdict}

@@ -1,6 +1,5 @@
 -- `route::read_route` meets its contract.
 -- Assumes nothing.
-use borrow.Author.Rules.{rules}
 use mathlib.Core.Path.{subst₂}
 use Prim.Native.Nat.{ℕ}
 use lib.ListN.{length}

@@ -1,9 +1,7 @@
 -- `rules::all_inside` meets its contract. The loop's invariant: the timers before `timer` are in their windows. Assumes nothing.
 use mathlib.Core.Path.{refl}
-use Prim.Native.Nat.{◌-◌, ◌≤◌}
 use native.Mathlib.Omega.{arith}
-use borrow.Author.Tests.{not-true, not-false}
-use Rattle.rules.proofs.TimerTests.{InUpTo, in-more, in-not}
+use Rattle.rules.proofs.TimerTests.{in-more, in-not}
 use Rattle.rules.proofs.all_inside.Goals as goal
 
 pub loop-timer-init : goal.loop-timer-init

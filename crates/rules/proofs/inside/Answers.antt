@@ -1,5 +1,4 @@
 -- `rules::inside` meets its contract. Assumes nothing.
-use borrow.Author.Rules.{rules}
 use native.Mathlib.Omega.{arith}
 use Rattle.rules.proofs.TimerTests.{below, not-below}
 use Rattle.rules.proofs.inside.Goals as goal

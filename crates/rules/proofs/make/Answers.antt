@@ -6,7 +6,6 @@ use Rattle.semantics.specs.Regions.Lists.{replicate-zero}
 use Rattle.table.specs.Theorems.Access.{table-length}
 use Rattle.rules.proofs.Ordering.{modes-few, moves-few}
 use Rattle.rules.proofs.Whole.{is-rules}
-use borrow.Author.Rules.{rules}
 use Rattle.rules.proofs.make.Goals as goal
 
 pub fill-requires : goal.fill-requires
@@ -37,8 +36,7 @@ join-requires c =
 
 pub cap-requires : goal.cap-requires
 cap-requires c =
-    let modes = c.modes-modes.ensures in
-    (
+    let modes = c.modes-modes.ensures in (
       c.requires,
       c.join.ensures.size ∙ c.fill-2.ensures.size ∙ c.fill.ensures.size,
       omega (arith, modes-few c.args.table.now c.requires),
@@ -46,16 +44,14 @@ cap-requires c =
 
 pub no_moves-requires : goal.no_moves-requires
 no_moves-requires c =
-    let modes = c.modes-modes.ensures in
-    (
+    let modes = c.modes-modes.ensures in (
       c.cap.ensures.size ∙ c.join.ensures.size ∙ c.fill-2.ensures.size ∙ c.fill.ensures.size,
       omega (arith, modes-few c.args.table.now c.requires),
     )
 
 pub order-requires : goal.order-requires
 order-requires c =
-    let modes = c.modes-modes.ensures in
-    (
+    let modes = c.modes-modes.ensures in (
       c.requires,
       c.no_moves.ensures.size ∙ c.cap.ensures.size ∙ c.join.ensures.size ∙ c.fill-2.ensures.size
           ∙ c.fill.ensures.size,

@@ -1,5 +1,4 @@
 -- `search::nodes_of` meets its contract. Assumes nothing.
-use borrow.Author.Rules.{rules}
 use mathlib.Core.Path.{sym, ◌∙◌}
 use Rattle.table.specs.Held.{automaton_of}
 use Rattle.search.specs.Laws.Answers.{nodes-many, nodes-few}

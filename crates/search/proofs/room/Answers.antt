@@ -5,7 +5,6 @@ use Rattle.semantics.specs.Automaton.{Automaton}
 use Rattle.search.specs.declared.Searched.{Searched}
 use Rattle.search.specs.declared.Searched.TheVariants.{Nodes}
 use Rattle.search.specs.Outcome.{nodes_of}
-use borrow.Author.Rules.{rules}
 use mathlib.Core.Path.{sym, ◌∙◌}
 use native.Mathlib.Omega.{arith}
 use Rattle.table.specs.Held.{automaton_of}

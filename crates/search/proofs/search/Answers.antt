@@ -1,11 +1,9 @@
 -- `search::search` meets its contract. Assumes nothing.
 use Rattle.search.proofs.search.Goals.{After-start_node}
-use borrow.Author.Rules.{rules}
 use mathlib.Core.Path.{sym, ◌∙◌}
 use lib.ListN.{length}
 use Rattle.table.specs.Held.{automaton_of}
-use Rattle.search.specs.Laws.Answers.{Fits, answer-fits, searched-refused, searched-nodes}
-use Rattle.search.proofs.Seeding.{seeded-kept}
+use Rattle.search.specs.Laws.Answers.{answer-fits, searched-refused, searched-nodes}
 use Rattle.search.proofs.Searching.{Searching, seeding, finding, keeping, near-found}
 use Rattle.search.proofs.search.Goals as goal
 

@@ -4,7 +4,6 @@ use mathlib.Core.List.{List}
 use mathlib.Core.Path.{refl}
 use Prim.Native.Nat.{ℕ, ◌*◌, ◌≤◌}
 use native.Mathlib.Omega.{arith}
-use borrow.Author.Rules.{rules}
 use Rattle.regions.specs.Nodes.{most_cells}
 use Rattle.regions.specs.Laws.Nodes.{corners-few, table-few}
 use Rattle.space.specs.declared.Space.{Space}

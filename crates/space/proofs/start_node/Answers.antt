@@ -1,7 +1,6 @@
 -- `space::start_node` meets its contract.
 -- Assumes nothing.
 use native.Mathlib.Omega.{arith}
-use borrow.Author.Rules.{rules}
 use Rattle.space.proofs.Spaces.{start-ready, start_is}
 use Rattle.space.proofs.start_node.Goals as goal
 

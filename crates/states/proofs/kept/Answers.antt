@@ -1,7 +1,6 @@
 -- `states::kept` meets its contract.
 -- Assumes nothing.
 use mathlib.Core.Path.{refl}
-use borrow.Author.Rules.{rules}
 use borrow.Author.Tests.{eq-eqb, ne_eqb}
 use Rattle.states.proofs.kept.Goals as goal
 

@@ -3,7 +3,6 @@
 use mathlib.Core.Path.{◌≡◌, ap, ◌∙◌}
 use Prim.Native.Nat.{ℕ, ◌*◌, ◌≤◌}
 use native.Mathlib.Omega.{arith}
-use borrow.Author.Rules.{rules}
 use Rattle.semantics.specs.Nodes.Node.{cell_number}
 use Rattle.table.specs.Held.{fields_of, move_fields_at}
 use Rattle.corners.specs.Cells.{most_cells}

@@ -3,7 +3,6 @@
 use Prim.Native.Nat.{◌≤◌}
 use native.Mathlib.Nat.{div-le_self}
 use native.Mathlib.Omega.{arith}
-use borrow.Author.Rules.{rules}
 use Rattle.corners.specs.Cells.{most_cells}
 use Rattle.states.specs.declared.States.{States}
 use Rattle.states.specs.States.{StatesReady}

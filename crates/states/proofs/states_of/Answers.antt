@@ -3,7 +3,6 @@
 use mathlib.Core.Path.{refl}
 use Prim.Native.Nat.{◌*◌, ◌≤◌}
 use native.Mathlib.Omega.{arith}
-use borrow.Author.Rules.{rules}
 use Rattle.regions.specs.Laws.Nodes.{table-few}
 use Rattle.states.proofs.Held.{modes-few, count_fits, states-are}
 use Rattle.states.proofs.states_of.Goals as goal

@@ -1,12 +1,8 @@
 -- `states::waited` meets its contract. The loop has counted up the first i values.
 -- Assumes nothing.
-use mathlib.Core.Path.{◌≡◌, ap, ◌∙◌}
-use Prim.Native.Nat.{ℕ, ◌+◌, ◌-◌, ◌≤◌, ◌<◌}
-use native.Mathlib.Omega.{arith}
-use borrow.Author.Rules.{rules}
-use lib.ListN.{length}
+use mathlib.Core.Path.{◌≡◌}
+use Prim.Native.Nat.{◌+◌, ◌-◌, ◌≤◌}
 use Rattle.arrays.specs.Arrays.{map_to}
-use Rattle.arrays.proofs.Turns.{map_to-more}
 use Rattle.states.proofs.waited.Given as goal
 
 abbrev pub invariant-loop-i : goal.invariant-loop-i

@@ -1,5 +1,4 @@
 -- `table::ceilings` meets its contract. Assumes nothing.
-use borrow.Author.Rules.{rules}
 use Rattle.table.specs.Theorems.Access.{ceilings-held}
 use Rattle.table.proofs.ceilings.Goals as goal
 

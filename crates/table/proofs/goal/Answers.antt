@@ -1,6 +1,5 @@
 -- `table::goal` meets its contract. Assumes nothing.
 use Rattle.table.specs.Theorems.Access.{counts, goal-is}
-use borrow.Author.Rules.{rules}
 use native.Mathlib.Omega.{arith}
 use Rattle.table.proofs.goal.Goals as goal
 

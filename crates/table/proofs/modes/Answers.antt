@@ -1,6 +1,5 @@
 -- `table::modes` meets its contract. Assumes nothing.
 use Rattle.table.specs.Theorems.Access.{counts, mode-count}
-use borrow.Author.Rules.{rules}
 use native.Mathlib.Omega.{arith}
 use Rattle.table.proofs.modes.Goals as goal
 

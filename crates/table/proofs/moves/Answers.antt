@@ -1,6 +1,5 @@
 -- `table::moves` meets its contract. Assumes nothing.
 use Rattle.table.specs.Theorems.Access.{counts, move-count}
-use borrow.Author.Rules.{rules}
 use native.Mathlib.Omega.{arith}
 use Rattle.table.proofs.moves.Goals as goal
 

@@ -1,7 +1,6 @@
 -- `table::price` meets its contract. Assumes nothing.
 use mathlib.Core.Path.{sym, ◌∙◌}
 use Rattle.table.specs.Theorems.Access.{price-at, price-within}
-use borrow.Author.Rules.{rules}
 use native.Mathlib.Omega.{arith}
 use Rattle.table.proofs.price.Goals as goal
 

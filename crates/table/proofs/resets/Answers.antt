@@ -1,7 +1,6 @@
 -- `table::resets` meets its contract. Assumes nothing.
 use mathlib.Core.Path.{sym}
 use Rattle.table.specs.Theorems.Access.{resets-at}
-use borrow.Author.Rules.{rules}
 use Rattle.table.proofs.resets.Goals as goal
 
 pub returns : goal.returns

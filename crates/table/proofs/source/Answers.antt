@@ -1,7 +1,6 @@
 -- `table::source` meets its contract. Assumes nothing.
 use mathlib.Core.Path.{sym}
 use Rattle.table.specs.Theorems.Access.{mode-count, counts, source-at, source-below}
-use borrow.Author.Rules.{rules}
 use native.Mathlib.Omega.{arith}
 use Rattle.table.proofs.source.Goals as goal
 

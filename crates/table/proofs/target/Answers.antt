@@ -1,7 +1,6 @@
 -- `table::target` meets its contract. Assumes nothing.
 use mathlib.Core.Path.{sym}
 use Rattle.table.specs.Theorems.Access.{mode-count, counts, target_at, target_below}
-use borrow.Author.Rules.{rules}
 use native.Mathlib.Omega.{arith}
 use Rattle.table.proofs.target.Goals as goal
 

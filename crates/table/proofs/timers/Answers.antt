@@ -1,6 +1,5 @@
 -- `table::timers` meets its contract. Assumes nothing.
 use Rattle.table.specs.Theorems.Access.{counts, timer-count}
-use borrow.Author.Rules.{rules}
 use native.Mathlib.Omega.{arith}
 use Rattle.table.proofs.timers.Goals as goal
 

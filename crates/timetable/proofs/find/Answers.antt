@@ -1,6 +1,5 @@
 -- `timetable::find` meets its contract.
 -- Assumes nothing.
-use borrow.Author.Rules.{rules}
 use native.Mathlib.Omega.{arith}
 use mathlib.Core.Path.{◌∙◌}
 use Rattle.timetable.proofs.Finding.{search-ready, find_none, find-short, walk-ready, find-written}

@@ -1,10 +1,8 @@
 -- `timetable::timetable` meets its contract. Assumes nothing.
-use borrow.Author.Rules.{rules}
 use mathlib.Core.Path.{◌∙◌}
 use Prim.Native.Nat.{ℕ, ◌<◌}
 use native.Mathlib.Omega.{arith}
 use lib.ListN.{get_or}
-use Rattle.table.specs.Held.{IsTable}
 use Rattle.reader.specs.Theorems.Accepted.{accepted-table, accepted-read, rejected-read}
 use Rattle.timetable.proofs.Answering.{outcome-keeps, timetabled-refused, timetabled-accepted}
 use Rattle.timetable.proofs.timetable.Goals.{After-read-verdict}

@@ -1,6 +1,5 @@
 -- `timetable::timetable_of` meets its contract.
 -- Assumes nothing.
-use borrow.Author.Rules.{rules}
 use mathlib.Core.Path.{sym, ◌∙◌}
 use lib.ListN.{length}
 use Rattle.table.specs.Held.{automaton_of}

@@ -1,7 +1,6 @@
 -- `cases::cells::found_again` meets its contract. No more corners are found again than were looked at.
 -- Assumes nothing.
-use Prim.Native.Nat.{ℕ, ◌-◌, ◌<◌, ◌≤◌}
-use mathlib.Core.Logic.{⊎_elim}
+use Prim.Native.Nat.{ℕ, ◌<◌, ◌≤◌}
 use mathlib.Core.Path.{◌≡◌, ◌∙◌}
 use native.Mathlib.Omega.{arith}
 use lib.ListN.{take}
@@ -13,9 +12,6 @@ use Rattle.regions.specs.Laws.Fields.{holds, top-is}
 use Rattle.regions.specs.Laws.Nodes.{corners-few}
 use Rattle.cases.proofs.OneCell.{zeros, zeros-few, zeros-padded, zeros-many, cell-region}
 use Rattle.cases.proofs.cells.found_again.Goals as goal
-
-pub corners-number-end-requires : goal.corners-number-end-requires
-corners-number-end-requires c = c.requires.1
 
 pub region_at-at-requires : goal.region_at-at-requires
 region_at-at-requires c =

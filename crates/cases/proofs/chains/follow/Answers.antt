@@ -1,16 +1,9 @@
 -- `cases::chains::follow` meets its contract.
 -- Assumes nothing.
-use Prim.Native.Nat.{◌+◌, ◌-◌, ◌≤◌}
+use Prim.Native.Nat.{◌+◌, ◌-◌}
 use native.Mathlib.Omega.{arith}
-use Rattle.cases.specs.Kept.{OnChain}
 use Rattle.cases.proofs.Steps.{fewer-steps}
 use Rattle.cases.proofs.chains.follow.Goals as goal
-
-pub start-place-requires : goal.start-place-requires
-start-place-requires g c = c.requires
-
-pub loop-i-init : goal.loop-i-init
-loop-i-init g c = (omega arith, omega arith, c.start-place.ensures)
 
 pub show-requires : goal.show-requires
 show-requires g c = fewer-steps (omega arith) c.loop-i.invariant.2

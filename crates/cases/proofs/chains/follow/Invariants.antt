@@ -1,9 +1,7 @@
 -- `cases::chains::follow` meets its contract.
 -- Assumes nothing.
-use Prim.Native.Nat.{◌+◌, ◌-◌, ◌≤◌}
-use native.Mathlib.Omega.{arith}
+use Prim.Native.Nat.{◌-◌, ◌≤◌}
 use Rattle.cases.specs.Kept.{OnChain}
-use Rattle.cases.proofs.Steps.{fewer-steps}
 use Rattle.cases.proofs.chains.follow.Given as goal
 
 abbrev pub invariant-loop-i : goal.invariant-loop-i

@@ -1,7 +1,6 @@
 -- `cases::chains::stands` meets its contract.
 -- Assumes nothing.
 use Prim.Native.Nat.{◌-◌, ◌≤◌}
-use native.Mathlib.Omega.{arith}
 use Rattle.cases.proofs.chains.stands.Given as goal
 
 abbrev pub invariant-loop-corner : goal.invariant-loop-corner

@@ -9,9 +9,6 @@ use Rattle.cases.specs.Kept.{most_amount}
 use Rattle.cases.proofs.Steps.{kept, kept_same, ceilings-many, ceilings-below}
 use Rattle.cases.proofs.operations.delayed.Goals as goal
 
-pub within-requires : goal.within-requires
-within-requires c = c.requires.0
-
 pub delay-requires : goal.delay-requires
 delay-requires c =
     let s = c.args.region in

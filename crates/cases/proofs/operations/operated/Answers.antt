@@ -1,9 +1,10 @@
 -- `cases::operations::operated` meets its contract.
 -- Assumes nothing.
-use Prim.Native.Nat.{◌≤◌}
+use Prim.Native.Nat.{ℕ, ◌≤◌}
 use native.Mathlib.Nat.{mod-lt}
 use native.Mathlib.Omega.{arith}
 use lib.Dec.{lit<}
+use Rattle.regions.specs.declared.Region.{Region}
 use Rattle.regions.specs.Held.{Valid, view, PriceRoom}
 use Rattle.regions.specs.Laws.Chain.{linger-gives, charge-gives, reset-gives, reset_all-gives}
 use Rattle.regions.specs.Laws.Room.{less-room, linger-price-room, charge-price-room, reset-price-room, reset_all-price-room}
@@ -11,16 +12,17 @@ use Rattle.cases.specs.Kept.{most_amount}
 use Rattle.cases.proofs.Steps.{kept, kept_free, kept_same}
 use Rattle.cases.proofs.operations.operated.Goals as goal
 
+-- There is room for an amount of 16 bits.
+room :
+    (s : Region) (amount : ℕ) → Valid s × PriceRoom most_amount (view s) → amount ≤ most_amount
+    → Valid s × PriceRoom amount (view s)
+room s amount h few = (h.0, less-room (view s) amount most_amount few h.1)
+
 pub delayed-requires : goal.delayed-requires
-delayed-requires c =
-    let few : c.args.amount ≤ most_amount = omega arith in
-    (c.requires.0, c.requires.1, few)
+delayed-requires c = (c.requires.0, c.requires.1, omega arith)
 
 pub linger-requires : goal.linger-requires
-linger-requires c =
-    let few : c.args.amount ≤ most_amount = omega arith in
-    let room : Valid c.args.region × PriceRoom c.args.amount (view c.args.region) = (c.requires.0, less-room (view c.args.region) c.args.amount most_amount (few) c.requires.1) in
-    room
+linger-requires c = room c.args.region c.args.amount c.requires (omega arith)
 
 pub reset-requires : goal.reset-requires
 reset-requires c = (c.requires.0, mod-lt _ (lit< tt))
@@ -28,17 +30,8 @@ reset-requires c = (c.requires.0, mod-lt _ (lit< tt))
 pub overflow_cast-amount-in-97 : goal.overflow_cast-amount-in-97
 overflow_cast-amount-in-97 c = record { fits = mod-lt c.args.amount (lit< tt) }
 
-pub reset_all-requires : goal.reset_all-requires
-reset_all-requires c = c.requires.0
-
 pub charge-requires : goal.charge-requires
-charge-requires c =
-    let few : c.args.amount ≤ most_amount = omega arith in
-    let room : Valid c.args.region × PriceRoom c.args.amount (view c.args.region) = (c.requires.0, less-room (view c.args.region) c.args.amount most_amount (few) c.requires.1) in
-    room
-
-pub returns-in-100 : goal.returns-in-100
-returns-in-100 c = c.delayed.ensures
+charge-requires c = room c.args.region c.args.amount c.requires (omega arith)
 
 pub returns-in-108 : goal.returns-in-108
 returns-in-108 c =
@@ -58,10 +51,9 @@ returns-in-97 c =
 
 pub returns-in-99 : goal.returns-in-99
 returns-in-99 c =
-    let few : c.args.amount ≤ most_amount = omega arith in
     let s = c.args.region in
     let amount = c.args.amount in
-    kept s _ amount (few) (charge-gives s _ c.requires.0 amount c.charge.ensures) (charge-price-room (view s) amount)
+    kept s _ amount (omega arith) (charge-gives s _ c.requires.0 amount c.charge.ensures) (charge-price-room (view s) amount)
 
 pub returns-in_default : goal.returns-in_default
 returns-in_default c = kept_same c.args.region c.requires.0

@@ -1,20 +1,12 @@
 -- `cases::places::fits` meets its contract. Within the ceilings there is room for half minutes.
 -- Assumes nothing.
 use mathlib.Core.Path.{sym, ◌∙◌}
-use borrow.Author.Rules.{rules}
 use Rattle.cases.proofs.Steps.{half_room}
 use Rattle.cases.proofs.places.fits.Goals as goal
 
-pub ceilings-requires : goal.ceilings-requires
-ceilings-requires c = c.requires.0
-
-pub within-requires : goal.within-requires
-within-requires c = c.requires.1
-
 pub halves-requires : goal.halves-requires
-halves-requires c =
-    (
-      c.requires.1,
-      half_room c.args.table.now c.requires.0 c.args.region c.requires.1 c.ceilings.result c.ceilings.ensures
-          (sym c.within.ensures ∙ c.if-within.true),
-    )
+halves-requires c = (
+  c.requires.1,
+  half_room c.args.table.now c.requires.0 c.args.region c.requires.1 c.ceilings.result c.ceilings.ensures
+      (sym c.within.ensures ∙ c.if-within.true),
+)

@@ -10,32 +10,18 @@ use Rattle.cases.proofs.Steps.{move-few, two-operations, operation-ready, second
 use Rattle.cases.proofs.places.moved.Goals as goal
 
 pub overflow_add-e : goal.overflow_add-e
-overflow_add-e c =
-    let few : c.args.e < 64 = move-few c.args.table.now c.requires.0.is-table c.args.e c.requires.1 in
-    omega (arith, few)
+overflow_add-e c = omega (arith, move-few c.args.table.now c.requires.0.is-table c.args.e c.requires.1)
 
 pub fits-open-requires : goal.fits-open-requires
 fits-open-requires c =
-    let few : c.args.e < 64 = move-few c.args.table.now c.requires.0.is-table c.args.e c.requires.1 in
-    (c.requires.0.is-table, c.requires.0.valid, omega (arith, few))
-
-pub resets-requires : goal.resets-requires
-resets-requires c = (c.requires.0.is-table, c.requires.1)
+    let h = c.requires.0 in
+    (h.is-table, h.valid, omega (arith, move-few c.args.table.now h.is-table c.args.e c.requires.1))
 
 pub operated-cleared-requires : goal.operated-cleared-requires
 operated-cleared-requires c = operation-ready c.requires.0
 
-pub price-requires : goal.price-requires
-price-requires c = (c.requires.0.is-table, c.requires.1)
-
 pub operated-charged-requires : goal.operated-charged-requires
 operated-charged-requires c = second-ready c.requires.0 c.operated-cleared.ensures
-
-pub source-requires : goal.source-requires
-source-requires c = (c.requires.0.is-table, c.requires.1)
-
-pub target-requires : goal.target-requires
-target-requires c = (c.requires.0.is-table, c.requires.1)
 
 pub returns : goal.returns
 returns c =

@@ -1,6 +1,6 @@
 -- `cases::places::start` meets its contract.
 -- Assumes nothing.
-use mathlib.Core.Path.{refl, sym, subst, ◌∙◌}
+use mathlib.Core.Path.{sym, subst, ◌∙◌}
 use native.Mathlib.Omega.{arith}
 use lib.Dec.{lit<}
 use Rattle.table.specs.Theorems.Access.{counts, mode-count, timer-count}
@@ -8,9 +8,6 @@ use Rattle.regions.specs.Held.{PriceRoom}
 use Rattle.regions.specs.Laws.Chain.{start_gives}
 use Rattle.regions.specs.Laws.Room.{start-price-room}
 use Rattle.cases.proofs.places.start.Goals as goal
-
-pub timers-requires : goal.timers-requires
-timers-requires g c = c.requires
 
 pub start-requires : goal.start-requires
 start-requires g c =

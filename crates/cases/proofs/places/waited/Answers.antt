@@ -1,7 +1,6 @@
 -- `cases::places::waited` meets its contract.
 -- Assumes nothing.
 use native.Mathlib.Omega.{arith}
-use borrow.Author.Rules.{rules}
 use Rattle.cases.proofs.Steps.{mode-few, one-operation, operation-ready}
 use Rattle.cases.proofs.places.waited.Goals as goal
 

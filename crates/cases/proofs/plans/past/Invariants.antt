@@ -1,12 +1,7 @@
 -- `cases::plans::past` meets its contract.
 -- Assumes nothing.
 use Prim.Native.Nat.{◌-◌}
-use Prim.{Unit}
-use native.Mathlib.Omega.{arith}
 use Rattle.cases.proofs.plans.past.Given as goal
-
-abbrev pub invariant-loop-at : goal.invariant-loop-at
-invariant-loop-at l = Unit {0}
 
 abbrev pub decreases-loop-at : goal.decreases-loop-at
 decreases-loop-at l = 129600 - l.at

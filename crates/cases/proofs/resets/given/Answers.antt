@@ -2,7 +2,6 @@
 -- Assumes nothing.
 use mathlib.Core.Path.{refl}
 use native.Mathlib.Omega.{arith}
-use borrow.Author.Rules.{rules}
 use Rattle.regions.specs.Laws.Fields.{holds, timers-is, top-few}
 use Rattle.cases.proofs.Given.{given-valid}
 use Rattle.cases.proofs.resets.given.Goals as goal

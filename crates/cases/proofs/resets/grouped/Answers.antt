@@ -1,14 +1,10 @@
 -- `cases::resets::grouped` meets its contract: what is found is a region of the cell.
 -- Assumes nothing.
-use Prim.Native.Nat.{◌-◌, ◌≤◌}
 use native.Mathlib.Omega.{arith}
 use Rattle.regions.specs.Laws.Chain.{start_gives}
 use Rattle.regions.specs.Laws.Nodes.{corners-few}
 use Rattle.cases.proofs.OneCell.{zeros-few, zeros-padded, cell-region}
 use Rattle.cases.proofs.resets.grouped.Goals as goal
-
-pub corners-number-end-requires : goal.corners-number-end-requires
-corners-number-end-requires c = c.requires.1
 
 pub region_at-at-requires : goal.region_at-at-requires
 region_at-at-requires c =
@@ -24,9 +20,6 @@ pub returns-then-group-groups : goal.returns-then-group-groups
 returns-then-group-groups c =
     let pre = c.requires in
     (cell-region _ pre.0 pre.1 _ _ c.region_at-at.ensures).valid
-
-pub start-requires : goal.start-requires
-start-requires c = c.requires.1
 
 pub returns : goal.returns
 returns c =

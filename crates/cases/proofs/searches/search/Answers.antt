@@ -4,7 +4,6 @@ use mathlib.Core.Path.{sym}
 use Prim.Native.Nat.{ℕ, ◌%◌}
 use native.Mathlib.Nat.{mod-lt}
 use native.Mathlib.Omega.{arith}
-use borrow.Author.Rules.{rules}
 use lib.Dec.{lit<}
 use lib.ListN.{get_or, replicate, length-replicate}
 use lib.Seq.{length-take-le}
@@ -12,7 +11,5 @@ use Rattle.cases.proofs.searches.search.Goals as goal
 
 pub slice_bounds-shown-end : goal.slice_bounds-shown-end
 slice_bounds-shown-end g c =
-    sym (length-take-le _ (replicate {A = ℕ} 6000 7) (omega (arith, length-replicate {A = ℕ} 6000 7, mod-lt (get_or c.args.numbers.now 1 0 % 16777216) {m = 6001} (lit< tt))))
-
-pub shown-requires : goal.shown-requires
-shown-requires g c = c.requires
+    let n = get_or c.args.numbers.now 1 0 % 16777216 in
+    sym (length-take-le _ (replicate {A = ℕ} 6000 7) (omega (arith, length-replicate {A = ℕ} 6000 7, mod-lt n {m = 6001} (lit< tt))))

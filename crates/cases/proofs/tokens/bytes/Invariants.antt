@@ -3,7 +3,6 @@
 use lib.ListN.{length}
 use Prim.Native.Nat.{◌-◌, ◌<◌}
 use mathlib.Core.Path.{◌≡◌}
-use native.Mathlib.Omega.{arith}
 use Rattle.cases.proofs.tokens.bytes.Given as goal
 
 abbrev pub invariant-loop-i : goal.invariant-loop-i

@@ -3,7 +3,6 @@
 use mathlib.Core.Bool.{Bool, true, false}
 use Prim.Native.Nat.{◌≤◌}
 use native.Mathlib.Omega.{arith}
-use borrow.Author.Rules.{rules}
 use lib.Dec.{eqb}
 use mir.Val.{bool_byte}
 use Rattle.cases.proofs.tokens.put.Goals as goal

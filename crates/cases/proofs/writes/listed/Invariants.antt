@@ -1,10 +1,6 @@
 -- `cases::writes::listed` meets its contract.
 -- Assumes nothing.
 use Prim.Native.Nat.{◌-◌, ◌≤◌}
-use native.Mathlib.Nat.{mod-lt}
-use native.Mathlib.Omega.{arith}
-use borrow.Author.Rules.{rules}
-use lib.Dec.{lit<}
 use Rattle.cases.proofs.writes.listed.Given as goal
 
 abbrev pub invariant-loop-i : goal.invariant-loop-i

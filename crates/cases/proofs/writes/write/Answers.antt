@@ -7,7 +7,6 @@ use lib.Dec.{lit<}
 use lib.ListN.{length, get_or, replicate, length-replicate}
 use lib.Seq.{length-take-le}
 use native.Mathlib.Omega.{arith}
-use borrow.Author.Rules.{rules}
 use Rattle.cases.proofs.writes.write.Goals as goal
 
 -- So many bytes are held.

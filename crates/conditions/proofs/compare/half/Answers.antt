@@ -1,6 +1,5 @@
 -- `conditions::compare::half` meets its contract.
 -- Assumes nothing.
-use borrow.Author.Rules.{rules}
 use borrow.Author.Tests.{eq-eqb, ne_eqb}
 use native.Mathlib.Omega.{arith}
 use Rattle.conditions.proofs.compare.half.Goals as goal

@@ -1,6 +1,5 @@
 -- `conditions::compare::meets_at_lem` meets its contract.
 -- Assumes nothing.
-use borrow.Author.Rules.{rules}
 use borrow.Author.Tests.{eq-eqb, ne_eqb}
 use native.Mathlib.Omega.{arith}
 use Rattle.conditions.proofs.Codes.{code-less, code-greater}

@@ -1,6 +1,5 @@
 -- `conditions::windows::above` meets its contract. Assumes nothing.
 use Prim.Native.Nat.{◌/◌, ◌%◌}
-use borrow.Author.Rules.{rules}
 use native.Mathlib.Omega.{arith}
 use Rattle.conditions.proofs.Codes.{to-value, to-above, to_free}
 use Rattle.conditions.proofs.windows.above.Goals as goal

@@ -1,8 +1,6 @@
 -- `conditions::windows::joined_high` meets its contract. Assumes nothing.
 use mathlib.Core.Path.{◌∙◌}
 use native.Mathlib.Omega.{arith}
-use borrow.Author.Rules.{rules}
-use borrow.Author.Tests.{not-true, not-false}
 use Rattle.conditions.proofs.Ends.{high-both, high-above, high-empty, high-kept}
 use Rattle.conditions.proofs.windows.joined_high.Goals as goal
 

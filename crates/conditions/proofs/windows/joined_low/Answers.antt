@@ -1,6 +1,5 @@
 -- `conditions::windows::joined_low` meets its contract. Assumes nothing.
 use mathlib.Core.Path.{◌∙◌}
-use borrow.Author.Rules.{rules}
 use Rattle.conditions.proofs.Ends.{low-both}
 use Rattle.conditions.proofs.windows.joined_low.Goals as goal
 

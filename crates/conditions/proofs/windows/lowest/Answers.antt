@@ -1,6 +1,5 @@
 -- `conditions::windows::lowest` meets its contract. Assumes nothing.
 use Prim.Native.Nat.{◌/◌, ◌%◌}
-use borrow.Author.Rules.{rules}
 use native.Mathlib.Omega.{arith}
 use Rattle.conditions.proofs.Codes.{from_zero, from-value, from-above}
 use Rattle.conditions.proofs.windows.lowest.Goals as goal

@@ -1,5 +1,4 @@
 -- `conditions::windows::narrowed` meets its contract. Assumes nothing.
-use borrow.Author.Rules.{rules}
 use Rattle.conditions.proofs.windows.narrowed.Goals as goal
 
 pub returns : goal.returns

@@ -1,12 +1,9 @@
 -- `conditions::windows::windows` meets its contract. The loop's invariant: the row has the windows of the first i bytes. Assumes nothing.
 use mathlib.Core.Path.{◌≡◌, refl, ◌∙◌}
-use mathlib.Core.Logic.{⊎_elim}
-use Prim.Native.Nat.{◌-◌, ◌≤◌, ◌<◌}
+use Prim.Native.Nat.{◌<◌}
 use borrow.Author.Rules.{rules}
 use native.Mathlib.Omega.{arith}
-use lib.ListN.{length, take}
-use Rattle.table.specs.Meaning.{conditions_from}
-use Rattle.conditions.specs.Windows.{row_of}
+use lib.ListN.{length}
 use Rattle.conditions.proofs.Narrowing.{row-none, row-some, row-all}
 use Rattle.conditions.proofs.windows.windows.Goals.{then-condition-ne0, else-condition-ne0}
 use Rattle.conditions.proofs.windows.windows.Goals as goal
@@ -21,10 +18,10 @@ loop-i-preserved c =
     let there : turn.i < length a.conditions = search rules in (
       omega arith,
       elim c.if-condition-ne0.branch [
-        then-condition-ne0 w ↦
-        w.row-is ∙ row-some a.conditions turn.i there turn.row turn.invariant.1 _ w.if-condition-ne0.true w.narrowed-next.ensures
+        | then-condition-ne0 w ↦
+            w.row-is ∙ row-some a.conditions turn.i there turn.row turn.invariant.1 _ w.if-condition-ne0.true w.narrowed-next.ensures
         | else-condition-ne0 w ↦
-        w.row-is ∙ row-none a.conditions turn.i there turn.row turn.invariant.1 w.if-condition-ne0.false
+            w.row-is ∙ row-none a.conditions turn.i there turn.row turn.invariant.1 w.if-condition-ne0.false
       ],
     )
 

@@ -1,13 +1,9 @@
 -- `conditions::windows::windows` meets its contract. The loop's invariant: the row has the windows of the first i bytes. Assumes nothing.
-use mathlib.Core.Path.{◌≡◌, refl, ◌∙◌}
-use mathlib.Core.Logic.{⊎_elim}
-use Prim.Native.Nat.{◌-◌, ◌≤◌, ◌<◌}
-use borrow.Author.Rules.{rules}
-use native.Mathlib.Omega.{arith}
-use lib.ListN.{length, take}
+use mathlib.Core.Path.{◌≡◌}
+use Prim.Native.Nat.{◌-◌, ◌≤◌}
+use lib.ListN.{take}
 use Rattle.table.specs.Meaning.{conditions_from}
 use Rattle.conditions.specs.Windows.{row_of}
-use Rattle.conditions.proofs.Narrowing.{row-none, row-some, row-all}
 use Rattle.conditions.proofs.windows.windows.Given as goal
 
 abbrev pub invariant-loop-i : goal.invariant-loop-i

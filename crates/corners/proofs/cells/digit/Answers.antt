@@ -1,7 +1,6 @@
 -- `corners::cells::digit` meets its contract. Assumes nothing.
 use native.Mathlib.Nat.{mod-lt}
 use native.Mathlib.Omega.{arith}
-use borrow.Author.Rules.{rules}
 use Rattle.corners.proofs.cells.digit.Goals as goal
 
 pub overflow_cast-result : goal.overflow_cast-result

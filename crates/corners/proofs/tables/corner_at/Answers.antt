@@ -1,13 +1,10 @@
 -- `corners::tables::corner_at` meets its contract.
 -- Assumes nothing.
 use mathlib.Core.Path.{◌≡◌, ◌∙◌}
-use Prim.Native.Nat.{◌+◌, ◌<◌}
-use borrow.Author.Rules.{rules}
 use native.Mathlib.Omega.{arith}
-use lib.ListN.{get_or}
 use Rattle.semantics.specs.Corners.Corner.{corner_at}
 use Rattle.corners.specs.Tables.{byte_of, corner_byte}
-use Rattle.corners.proofs.Rules.{first_places, place_in, byte-is, entry-is, corner-is}
+use Rattle.corners.proofs.Rules.{place_in, byte-is, entry-is, corner-is}
 use Rattle.corners.proofs.tables.corner_at.Goals as goal
 
 -- The place is in the table.

@@ -2,7 +2,6 @@
 -- Assumes nothing.
 use mathlib.Core.Path.{◌∙◌}
 use native.Mathlib.Omega.{arith}
-use borrow.Author.Rules.{rules}
 use Rattle.corners.proofs.Rules.{counts-right}
 use Rattle.corners.specs.Laws.Corners.{corners-few}
 use Rattle.corners.proofs.tables.corner_count.Goals as goal

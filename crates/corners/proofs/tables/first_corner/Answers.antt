@@ -1,8 +1,6 @@
 -- `corners::tables::first_corner` meets its contract.
 -- Assumes nothing.
 use mathlib.Core.Path.{◌∙◌}
-use borrow.Author.Rules.{rules}
-use native.Mathlib.Omega.{arith}
 use Rattle.corners.specs.Tables.{first_at}
 use Rattle.corners.proofs.Rules.{entry-is}
 use Rattle.corners.proofs.tables.first_corner.Goals as goal

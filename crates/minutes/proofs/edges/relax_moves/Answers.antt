@@ -1,6 +1,6 @@
 -- `minutes::edges::relax_moves` meets its contract. The loop has relaxed the pairs with the moves before e, which is one that is not passed over.
 -- Assumes nothing.
-use Prim.Native.Nat.{◌+◌, ◌-◌, ◌<◌}
+use Prim.Native.Nat.{◌+◌, ◌<◌}
 use native.Mathlib.Omega.{arith}
 use lib.ListN.{length}
 use Rattle.table.specs.Held.{automaton_of}
@@ -11,7 +11,7 @@ use Rattle.space.specs.Laws.Shares.{few-modes}
 use Rattle.space.proofs.MovesFrom.{first-begins, first-ready, next-open, next-ready, open_after}
 use Rattle.minutes.specs.Edges.{Waited}
 use Rattle.minutes.proofs.Offers.{hand-mode}
-use Rattle.minutes.proofs.MoveRelaxing.{MovesTo, wait-again, moves-none, moves-all, move-sum, move-ready, moves_more}
+use Rattle.minutes.proofs.MoveRelaxing.{wait-again, moves-none, moves-all, move-sum, move-ready, moves_more}
 use Rattle.minutes.proofs.edges.relax_moves.Goals.{After-first, After-next_move-e-in-loop-e, In-loop-e}
 use Rattle.minutes.proofs.edges.relax_moves.Goals as goal
 
@@ -95,13 +95,12 @@ pub loop-e-smaller : goal.loop-e-smaller
 loop-e-smaller c = omega (arith, (next c).low)
 
 pub loop-e-preserved : goal.loop-e-preserved
-loop-e-preserved c =
-    (
-      (next c).move,
-      moves_more c.requires.setting c.args.from c.requires.room c.halves-halves.result c.halves-halves.ensures _ c.loop-e-test.true (here (goal.at.loop-e-preserved c).In-loop-e)
-          c.requires.short c.args.words.now _ _ c.loop-e.invariant.1 c.price.result c.price.ensures c.lead-to.result
-          c.lead-to.ensures c.relax.ensures _ (next c),
-    )
+loop-e-preserved c = (
+  (next c).move,
+  moves_more c.requires.setting c.args.from c.requires.room c.halves-halves.result c.halves-halves.ensures _ c.loop-e-test.true (here (goal.at.loop-e-preserved c).In-loop-e)
+      c.requires.short c.args.words.now _ _ c.loop-e.invariant.1 c.price.result c.price.ensures c.lead-to.result
+      c.lead-to.ensures c.relax.ensures _ (next c),
+)
 
 pub returns : goal.returns
 returns c =

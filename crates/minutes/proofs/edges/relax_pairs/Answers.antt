@@ -1,9 +1,7 @@
 -- `minutes::edges::relax_pairs` meets its contract. The loop has relaxed the pairs that wait fewer minutes.
 -- Assumes nothing.
-use Prim.Native.Nat.{◌+◌, ◌*◌, ◌-◌, ◌≤◌, ◌<◌}
+use Prim.Native.Nat.{◌≤◌}
 use native.Mathlib.Omega.{arith}
-use borrow.Author.Rules.{rules}
-use Rattle.minutes.specs.Edges.{PairsDone}
 use Rattle.minutes.proofs.PairRelaxing.{first_below, first-few, pairs-long, pairs-none, minute-ready, pairs-more, pairs-all}
 use Rattle.minutes.proofs.edges.relax_pairs.Goals.{In-loop-minutes}
 use Rattle.minutes.proofs.edges.relax_pairs.Goals as goal
@@ -32,11 +30,10 @@ pub loop-minutes-smaller : goal.loop-minutes-smaller
 loop-minutes-smaller c = omega (arith, c.loop-minutes-test.true)
 
 pub loop-minutes-preserved : goal.loop-minutes-preserved
-loop-minutes-preserved c =
-    (
-      omega (arith, c.loop-minutes-test.true),
-      pairs-more c.requires c.loop-minutes.minutes c.loop-minutes.invariant.1 c.relax_minute.ensures,
-    )
+loop-minutes-preserved c = (
+  omega (arith, c.loop-minutes-test.true),
+  pairs-more c.requires c.loop-minutes.minutes c.loop-minutes.invariant.1 c.relax_minute.ensures,
+)
 
 pub returns : goal.returns
 returns c = pairs-all c.requires c.loop-minutes.minutes c.loop-minutes.invariant.1 (omega (arith, c.loop-minutes-test.false))

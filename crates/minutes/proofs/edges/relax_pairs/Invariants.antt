@@ -1,10 +1,7 @@
 -- `minutes::edges::relax_pairs` meets its contract. The loop has relaxed the pairs that wait fewer minutes.
 -- Assumes nothing.
 use Prim.Native.Nat.{◌+◌, ◌*◌, ◌-◌, ◌≤◌, ◌<◌}
-use native.Mathlib.Omega.{arith}
-use borrow.Author.Rules.{rules}
 use Rattle.minutes.specs.Edges.{PairsDone}
-use Rattle.minutes.proofs.PairRelaxing.{first_below, first-few, pairs-long, pairs-none, minute-ready, pairs-more, pairs-all}
 use Rattle.minutes.proofs.edges.relax_pairs.Given as goal
 
 abbrev pub invariant-loop-minutes : goal.invariant-loop-minutes

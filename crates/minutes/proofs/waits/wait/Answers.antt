@@ -1,7 +1,6 @@
 -- `minutes::waits::wait` meets its contract.
 -- Assumes nothing.
 use native.Mathlib.Omega.{arith}
-use borrow.Author.Rules.{rules}
 use Rattle.minutes.proofs.Waiting.{wait-timers, wait-fits, wait-done}
 use Rattle.minutes.proofs.waits.wait.Goals as goal
 

@@ -1,6 +1,5 @@
 -- `regions::Region::arrive` meets its contract.
 -- Assumes nothing.
-use borrow.Author.Rules.{rules}
 use Rattle.regions.specs.Held.{view}
 use Rattle.regions.specs.Laws.Fields.{holds, whole-at, top_above}
 use Rattle.regions.proofs.Methods.{zero-none, arrived-is}

@@ -1,6 +1,5 @@
 -- `regions::Region::corners` meets its contract.
 -- Assumes nothing.
-use borrow.Author.Rules.{rules}
 use Rattle.regions.proofs.Region.corners.Goals as goal
 
 pub returns : goal.returns

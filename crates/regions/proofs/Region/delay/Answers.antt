@@ -1,7 +1,6 @@
 -- `regions::Region::delay` meets its contract.
 -- Assumes nothing.
 use mathlib.Core.Path.{ap, sym, ◌∙◌}
-use borrow.Author.Rules.{rules}
 use Rattle.regions.specs.Held.{pack, view}
 use Rattle.regions.proofs.Methods.{delay-arrives, delay-leaves}
 use Rattle.regions.proofs.Region.delay.Goals as goal

@@ -5,7 +5,6 @@ use mathlib.Core.List.{◌∷◌, []}
 use Prim.Native.Nat.{ℕ, ◌+◌, ◌<◌}
 use native.Mathlib.Omega.{arith}
 use lib.ListN.{get_or}
-use borrow.Author.Rules.{rules}
 use Rattle.semantics.specs.Region.{high}
 use Rattle.semantics.specs.Regions.Windows.{half}
 use Rattle.regions.specs.Held.{view, Valid, HalfRoom}

@@ -2,7 +2,6 @@
 -- Assumes nothing.
 use mathlib.Core.Path.{ap₂, ◌∙◌}
 use Prim.Native.Nat.{ℕ, ◌/◌, ◌%◌}
-use borrow.Author.Rules.{rules}
 use Rattle.semantics.specs.Region.{meets_at, meets}
 use Rattle.table.specs.Meaning.{comparison_of}
 use Rattle.regions.specs.Held.{view}

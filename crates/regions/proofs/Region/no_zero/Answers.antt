@@ -1,6 +1,5 @@
 -- `regions::Region::no_zero` meets its contract.
 -- Assumes nothing.
-use borrow.Author.Rules.{rules}
 use Rattle.regions.specs.Held.{view}
 use Rattle.regions.proofs.Region.no_zero.Goals as goal
 

@@ -1,7 +1,6 @@
 -- `regions::Region::reset` meets its contract.
 -- Assumes nothing.
 use mathlib.Core.Path.{sym, ◌∙◌}
-use borrow.Author.Rules.{rules}
 use Rattle.regions.proofs.Region.reset.Goals as goal
 
 pub reset_alone-requires : goal.reset_alone-requires

@@ -1,12 +1,8 @@
 -- `regions::Region::reset_all` meets its contract. The loop has reset the timers above the present one that the byte names.
 -- Assumes nothing.
 use mathlib.Core.Path.{◌∙◌}
-use mathlib.Core.Logic.{⊎_elim}
-use Prim.Native.Nat.{◌-◌}
 use native.Mathlib.Omega.{arith}
-use borrow.Author.Rules.{rules}
-use Rattle.regions.specs.Held.{view}
-use Rattle.regions.proofs.Resets.{ResetSome, none-reset, named-reset, unnamed-kept, all-reset}
+use Rattle.regions.proofs.Resets.{none-reset, named-reset, unnamed-kept, all-reset}
 use Rattle.regions.proofs.Region.reset_all.Goals.{then-resets-timer-eq1, else-resets-timer-eq1}
 use Rattle.regions.proofs.Region.reset_all.Goals as goal
 
@@ -20,8 +16,8 @@ pub loop-done-preserved : goal.loop-done-preserved
 loop-done-preserved c =
     let inv = c.loop-done.invariant in
     elim c.if-resets-timer-eq1.branch [
-      then-resets-timer-eq1 w ↦
-      named-reset _ _ _ _ inv _ (omega arith) w.if-resets-timer-eq1.true (w.region-is ∙ w.reset-region.ensures)
+      | then-resets-timer-eq1 w ↦
+          named-reset _ _ _ _ inv _ (omega arith) w.if-resets-timer-eq1.true (w.region-is ∙ w.reset-region.ensures)
       | else-resets-timer-eq1 w ↦ unnamed-kept _ _ _ _ inv _ (omega arith) w.if-resets-timer-eq1.false w.region-is
     ]
 

@@ -1,12 +1,8 @@
 -- `regions::Region::reset_all` meets its contract. The loop has reset the timers above the present one that the byte names.
 -- Assumes nothing.
-use mathlib.Core.Path.{◌∙◌}
-use mathlib.Core.Logic.{⊎_elim}
 use Prim.Native.Nat.{◌-◌}
-use native.Mathlib.Omega.{arith}
-use borrow.Author.Rules.{rules}
 use Rattle.regions.specs.Held.{view}
-use Rattle.regions.proofs.Resets.{ResetSome, none-reset, named-reset, unnamed-kept, all-reset}
+use Rattle.regions.proofs.Resets.{ResetSome}
 use Rattle.regions.proofs.Region.reset_all.Given as goal
 
 abbrev pub invariant-loop-done : goal.invariant-loop-done

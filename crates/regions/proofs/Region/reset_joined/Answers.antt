@@ -1,6 +1,5 @@
 -- `regions::Region::reset_joined` meets its contract.
 -- Assumes nothing.
-use borrow.Author.Rules.{rules}
 use Rattle.regions.specs.Held.{view}
 use Rattle.regions.specs.Laws.Fields.{holds}
 use Rattle.regions.proofs.Methods.{reset-joined-is}

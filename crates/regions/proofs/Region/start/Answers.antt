@@ -1,6 +1,5 @@
 -- `regions::Region::start` meets its contract.
 -- Assumes nothing.
-use borrow.Author.Rules.{rules}
 use Rattle.regions.proofs.Methods.{started-is}
 use Rattle.regions.proofs.Region.start.Goals as goal
 

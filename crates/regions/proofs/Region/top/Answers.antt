@@ -1,6 +1,5 @@
 -- `regions::Region::top` meets its contract.
 -- Assumes nothing.
-use borrow.Author.Rules.{rules}
 use Rattle.regions.specs.Held.{view}
 use Rattle.regions.specs.Laws.Fields.{holds, top-is}
 use Rattle.regions.proofs.Region.top.Goals as goal

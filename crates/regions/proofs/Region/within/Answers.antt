@@ -2,14 +2,13 @@
 -- Assumes nothing.
 use mathlib.Core.Path.{◌≡◌, ◌∙◌, sym}
 use mathlib.Core.Bool.{true}
-use Prim.Native.Nat.{suc, ◌-◌, ◌≤◌, ◌<◌}
+use Prim.Native.Nat.{suc, ◌≤◌, ◌<◌}
 use native.Mathlib.Omega.{arith}
 use borrow.Author.Rules.{rules}
-use borrow.Author.Tests.{not-true, not-false}
 use lib.ListN.{length, take}
 use Rattle.semantics.specs.Region.{within}
 use Rattle.regions.specs.Held.{view}
-use Rattle.regions.proofs.Ceilings.{left, passed, failed, done, all_left}
+use Rattle.regions.proofs.Ceilings.{passed, failed, done, all_left}
 use Rattle.regions.proofs.Region.within.Goals as goal
 
 pub returns-then-n-timer : goal.returns-then-n-timer

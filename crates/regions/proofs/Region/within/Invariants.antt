@@ -1,15 +1,8 @@
 -- `regions::Region::within` meets its contract. The ceilings from the present timer on decide.
 -- Assumes nothing.
-use mathlib.Core.Path.{◌≡◌, ◌∙◌, sym}
-use mathlib.Core.Bool.{true}
-use Prim.Native.Nat.{suc, ◌-◌, ◌≤◌, ◌<◌}
-use native.Mathlib.Omega.{arith}
-use borrow.Author.Rules.{rules}
-use borrow.Author.Tests.{not-true, not-false}
-use lib.ListN.{length, take}
-use Rattle.semantics.specs.Region.{within}
-use Rattle.regions.specs.Held.{view}
-use Rattle.regions.proofs.Ceilings.{left, passed, failed, done, all_left}
+use mathlib.Core.Path.{◌≡◌}
+use Prim.Native.Nat.{◌-◌, ◌≤◌}
+use Rattle.regions.proofs.Ceilings.{left}
 use Rattle.regions.proofs.Region.within.Given as goal
 
 abbrev pub invariant-loop-timer : goal.invariant-loop-timer

@@ -3,7 +3,6 @@
 use mathlib.Core.Path.{refl, ap}
 use Prim.Native.Nat.{ℕ, ◌+◌, ◌*◌}
 use lib.ListN.{set}
-use borrow.Author.Rules.{rules}
 use Rattle.route.specs.Walk.{pointer}
 use Rattle.route.proofs.walk.advance.Goals as goal
 

@@ -2,7 +2,6 @@
 -- Assumes nothing.
 use mathlib.Core.Path.{refl, ap}
 use Prim.Native.Nat.{ℕ, ◌+◌, ◌/◌, ◌%◌}
-use borrow.Author.Rules.{rules}
 use Rattle.semantics.specs.Graph.Path.{steps_at}
 use Rattle.route.proofs.walk.backtrack.Goals as goal
 

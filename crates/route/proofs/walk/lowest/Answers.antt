@@ -2,9 +2,7 @@
 -- Assumes nothing.
 use mathlib.Core.Path.{sym, ◌∙◌}
 use mathlib.Core.Bool.{true≢false}
-use Prim.Native.Nat.{ℕ, ◌-◌, ◌≤◌, ◌<◌}
 use native.Mathlib.Omega.{arith}
-use Rattle.steps.specs.Steps.{Marked}
 use Rattle.route.proofs.MarkedSets.{lowest-is, unmarked-more}
 use Rattle.route.proofs.walk.lowest.Goals as goal
 
@@ -16,12 +14,11 @@ returns-then-marked c =
     lowest-is c.args.set c.loop-j.j c.loop-j.invariant.0 (λ h. c.marked.ensures.0 c.if-marked.true) c.loop-j.invariant.1
 
 pub loop-j-preserved : goal.loop-j-preserved
-loop-j-preserved c =
-    (
-      omega arith,
-      unmarked-more c.args.set c.loop-j.j c.loop-j.invariant.1
-          (λ m. true≢false (sym (c.marked.ensures.1 m) ∙ c.if-marked.false)),
-    )
+loop-j-preserved c = (
+  omega arith,
+  unmarked-more c.args.set c.loop-j.j c.loop-j.invariant.1
+      (λ m. true≢false (sym (c.marked.ensures.1 m) ∙ c.if-marked.false)),
+)
 
 pub returns : goal.returns
 returns c =

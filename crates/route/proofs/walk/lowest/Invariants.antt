@@ -1,11 +1,7 @@
 -- `route::walk::lowest` meets its contract. None of the corners passed is marked.
 -- Assumes nothing.
-use mathlib.Core.Path.{sym, ◌∙◌}
-use mathlib.Core.Bool.{true≢false}
 use Prim.Native.Nat.{ℕ, ◌-◌, ◌≤◌, ◌<◌}
-use native.Mathlib.Omega.{arith}
 use Rattle.steps.specs.Steps.{Marked}
-use Rattle.route.proofs.MarkedSets.{lowest-is, unmarked-more}
 use Rattle.route.proofs.walk.lowest.Given as goal
 
 abbrev pub invariant-loop-j : goal.invariant-loop-j

@@ -2,7 +2,6 @@
 -- Assumes nothing.
 use native.Mathlib.Nat.{div-le_self}
 use native.Mathlib.Omega.{arith}
-use borrow.Author.Rules.{rules}
 use Rattle.route.proofs.walk.mode_of.Goals as goal
 
 pub overflow_cast-result-3 : goal.overflow_cast-result-3

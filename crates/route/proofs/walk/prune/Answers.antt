@@ -2,8 +2,7 @@
 -- Assumes nothing.
 use mathlib.Core.Path.{◌≡◌, sym, subst, ◌∙◌}
 use mathlib.Core.Bool.{true≢false}
-use mathlib.Core.Logic.{⊎_elim}
-use Prim.Native.Nat.{ℕ, ◌+◌, ◌*◌, ◌-◌, ◌≤◌, ◌<◌}
+use Prim.Native.Nat.{ℕ, ◌+◌, ◌*◌, ◌<◌}
 use native.Mathlib.Omega.{arith}
 use lib.ListN.{length}
 use Rattle.route.specs.Walk.{PrunedBelow}
@@ -40,14 +39,14 @@ loop-j-preserved c =
     let marked = c.marked.ensures in (
       omega arith,
       elim c.if-marked.branch [
-        then-marked w ↦
-        subst (PrunedBelow (j + 1) args.first args.set args.words.now) (sym w.words-is)
-        (left-more j args.first args.set args.words.now c.loop-j.words l (marked.0 w.if-marked.true)
-        (c.requires j (marked.0 w.if-marked.true)))
+        | then-marked w ↦
+            subst (PrunedBelow (j + 1) args.first args.set args.words.now) (sym w.words-is)
+            (left-more j args.first args.set args.words.now c.loop-j.words l (marked.0 w.if-marked.true)
+            (c.requires j (marked.0 w.if-marked.true)))
         | else-marked w ↦
-        subst (PrunedBelow (j + 1) args.first args.set args.words.now) (sym w.words-is)
-        (left_over j args.first args.set args.words.now c.loop-j.words l
-        (λ m. true≢false (sym (marked.1 m) ∙ w.if-marked.false)))
+            subst (PrunedBelow (j + 1) args.first args.set args.words.now) (sym w.words-is)
+            (left_over j args.first args.set args.words.now c.loop-j.words l
+            (λ m. true≢false (sym (marked.1 m) ∙ w.if-marked.false)))
       ],
     )
 

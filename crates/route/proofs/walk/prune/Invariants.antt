@@ -1,13 +1,7 @@
 -- `route::walk::leave` meets its contract. The marked ones of the corners passed were left.
 -- Assumes nothing.
-use mathlib.Core.Path.{◌≡◌, sym, subst, ◌∙◌}
-use mathlib.Core.Bool.{true≢false}
-use mathlib.Core.Logic.{⊎_elim}
-use Prim.Native.Nat.{ℕ, ◌+◌, ◌*◌, ◌-◌, ◌≤◌, ◌<◌}
-use native.Mathlib.Omega.{arith}
-use lib.ListN.{length}
+use Prim.Native.Nat.{◌-◌, ◌≤◌}
 use Rattle.route.specs.Walk.{PrunedBelow}
-use Rattle.route.proofs.Leaving.{left-none, left_over, left-more}
 use Rattle.route.proofs.walk.prune.Given as goal
 
 abbrev pub invariant-loop-j : goal.invariant-loop-j

@@ -1,10 +1,7 @@
 -- `rules::order::no_moves` meets its contract. The loop's invariant: the modes before `mode` have no first move. Assumes nothing.
 use Prim.Native.Nat.{◌-◌, ◌≤◌}
-use mathlib.Core.Path.{◌≡◌, refl}
-use native.Mathlib.Omega.{arith}
 use Rattle.rules.specs.Rules.{none}
 use Rattle.rules.specs.Making.{Wrote}
-use Rattle.rules.proofs.Writing.{wrote_none, wrote-more}
 use Rattle.rules.proofs.order.no_moves.Given as goal
 
 abbrev pub invariant-loop-mode : goal.invariant-loop-mode

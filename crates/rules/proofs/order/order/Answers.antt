@@ -1,10 +1,9 @@
 -- `rules::order::order` meets its contract. The loop's invariant: the moves from e on stand in their order. Assumes nothing.
 use mathlib.Core.Path.{◌≡◌}
-use Prim.Native.Nat.{◌+◌, ◌-◌, ◌≤◌, ◌<◌}
+use Prim.Native.Nat.{◌+◌, ◌-◌, ◌<◌}
 use native.Mathlib.Omega.{arith}
 use lib.ListN.{length}
 use Rattle.table.specs.Held.{automaton_of}
-use Rattle.rules.specs.Making.{OrderedFrom}
 use Rattle.rules.proofs.Ordering.{moves-few, source-few, ordered-none, ordered-more}
 use Rattle.rules.proofs.order.order.Goals as goal
 

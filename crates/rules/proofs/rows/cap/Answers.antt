@@ -2,13 +2,11 @@
 -- Assumes nothing.
 use mathlib.Core.Path.{◌≡◌, ap, ◌∙◌}
 use mathlib.Core.List.{List}
-use Prim.Native.Nat.{ℕ, ◌-◌, ◌≤◌}
-use borrow.Author.Rules.{rules}
+use Prim.Native.Nat.{ℕ, ◌≤◌}
 use native.Mathlib.Omega.{arith}
 use lib.ListN.{get_or}
 use Rattle.table.specs.Held.{automaton_of}
 use Rattle.table.specs.Theorems.Access.{get_or-all, get_or-pad}
-use Rattle.rules.specs.Making.{CappedRows}
 use Rattle.rules.proofs.Capping.{caps-none, caps-more}
 use Rattle.rules.proofs.rows.cap.Goals as goal
 
@@ -29,11 +27,10 @@ cap_row-requires c =
     (c.loop-mode.invariant.1.size ∙ c.requires.1, omega arith, small c.before.before.before)
 
 pub loop-mode-preserved : goal.loop-mode-preserved
-loop-mode-preserved c =
-    (
-      omega arith,
-      caps-more _ _ c.ceilings-ceilings.result (entries c.before.before.before.before) c.loop-mode.mode c.loop-mode.rules _ c.loop-mode.invariant.1 c.cap_row.ensures,
-    )
+loop-mode-preserved c = (
+  omega arith,
+  caps-more _ _ c.ceilings-ceilings.result (entries c.before.before.before.before) c.loop-mode.mode c.loop-mode.rules _ c.loop-mode.invariant.1 c.cap_row.ensures,
+)
 
 pub returns : goal.returns
 returns c =

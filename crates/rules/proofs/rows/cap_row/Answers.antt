@@ -1,9 +1,7 @@
 -- `rules::rows::cap_row` meets its contract. The loop's invariant: the windows of the timers before the present one end above their ceilings.
 -- Assumes nothing.
-use Prim.Native.Nat.{◌-◌, ◌≤◌}
 use mathlib.Core.Path.{◌≡◌}
 use native.Mathlib.Omega.{arith}
-use Rattle.rules.specs.Making.{CappedRow}
 use Rattle.rules.proofs.Capping.{cap-none, cap-more}
 use Rattle.rules.proofs.rows.cap_row.Goals as goal
 

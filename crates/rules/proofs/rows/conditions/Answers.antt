@@ -1,9 +1,6 @@
 -- `rules::rows::conditions` meets its contract. The loop's invariant: the first i bytes are copied. Assumes nothing.
-use Prim.Native.Nat.{◌+◌, ◌-◌, ◌≤◌}
 use mathlib.Core.Path.{refl}
 use native.Mathlib.Omega.{arith}
-use lib.ListN.{get_or}
-use Rattle.rules.specs.Making.{Wrote}
 use Rattle.rules.proofs.Writing.{wrote_none, copied_more, copied}
 use Rattle.rules.proofs.rows.conditions.Goals as goal
 

@@ -1,12 +1,10 @@
 -- `rules::rows::fill` meets its contract. The loop's invariant: the rows of the first i records are filled. Assumes nothing.
 use mathlib.Core.Path.{◌≡◌, ◌∙◌, ap}
 use mathlib.Core.List.{List}
-use Prim.Native.Nat.{ℕ, ◌+◌, ◌*◌, ◌-◌, ◌≤◌}
-use borrow.Author.Rules.{rules}
+use Prim.Native.Nat.{ℕ, ◌+◌, ◌*◌, ◌≤◌}
 use native.Mathlib.Omega.{arith}
 use Rattle.table.specs.Meaning.{conditions_from}
 use Rattle.conditions.specs.Windows.{row_of}
-use Rattle.rules.specs.Making.{condition_bytes, FilledRows}
 use Rattle.rules.proofs.Filling.{filled_none, filled_more}
 use Rattle.rules.proofs.rows.fill.Goals as goal
 

@@ -1,13 +1,6 @@
 -- `rules::rows::fill` meets its contract. The loop's invariant: the rows of the first i records are filled. Assumes nothing.
-use mathlib.Core.Path.{◌≡◌, ◌∙◌, ap}
-use mathlib.Core.List.{List}
-use Prim.Native.Nat.{ℕ, ◌+◌, ◌*◌, ◌-◌, ◌≤◌}
-use borrow.Author.Rules.{rules}
-use native.Mathlib.Omega.{arith}
-use Rattle.table.specs.Meaning.{conditions_from}
-use Rattle.conditions.specs.Windows.{row_of}
+use Prim.Native.Nat.{◌-◌, ◌≤◌}
 use Rattle.rules.specs.Making.{condition_bytes, FilledRows}
-use Rattle.rules.proofs.Filling.{filled_none, filled_more}
 use Rattle.rules.proofs.rows.fill.Given as goal
 
 abbrev pub invariant-loop-i : goal.invariant-loop-i

@@ -1,12 +1,10 @@
 -- `rules::rows::join` meets its contract. The loop's invariant: the rows of the moves before e are joined. Assumes nothing.
 use mathlib.Core.Path.{◌≡◌, ◌∙◌}
-use Prim.Native.Nat.{◌-◌, ◌≤◌, ◌<◌}
-use borrow.Author.Rules.{rules}
+use Prim.Native.Nat.{◌<◌}
 use native.Mathlib.Omega.{arith}
 use lib.ListN.{length}
 use Rattle.table.specs.Held.{automaton_of}
 use Rattle.table.specs.Theorems.Access.{target_below}
-use Rattle.rules.specs.Making.{JoinedRows}
 use Rattle.rules.proofs.Ordering.{modes-few, moves-few}
 use Rattle.rules.proofs.Joining.{move-resets, rows_none, rows_more}
 use Rattle.rules.proofs.rows.join.Goals as goal
@@ -37,8 +35,7 @@ resets-requires c =
 
 pub join_row-requires : goal.join_row-requires
 join_row-requires c =
-    let there : c.loop-e.e < length (automaton_of c.args.table.now).moves = omega (arith, c.moves-moves.ensures) in
-    (
+    let there : c.loop-e.e < length (automaton_of c.args.table.now).moves = omega (arith, c.moves-moves.ensures) in (
       c.loop-e.invariant.1.size ∙ c.requires.1,
       omega (arith, target-few c.before),
       omega (arith, there, moves-few c.args.table.now c.requires.0),

@@ -1,14 +1,7 @@
 -- `rules::rows::join` meets its contract. The loop's invariant: the rows of the moves before e are joined. Assumes nothing.
-use mathlib.Core.Path.{◌≡◌, ◌∙◌}
-use Prim.Native.Nat.{◌-◌, ◌≤◌, ◌<◌}
-use borrow.Author.Rules.{rules}
-use native.Mathlib.Omega.{arith}
-use lib.ListN.{length}
+use Prim.Native.Nat.{◌-◌, ◌≤◌}
 use Rattle.table.specs.Held.{automaton_of}
-use Rattle.table.specs.Theorems.Access.{target_below}
 use Rattle.rules.specs.Making.{JoinedRows}
-use Rattle.rules.proofs.Ordering.{modes-few, moves-few}
-use Rattle.rules.proofs.Joining.{move-resets, rows_none, rows_more}
 use Rattle.rules.proofs.rows.join.Given as goal
 
 abbrev pub invariant-loop-e : goal.invariant-loop-e

@@ -1,10 +1,6 @@
 -- `rules::rows::join_row` meets its contract. The loop's invariant: the windows of the timers before the present one are joined. Assumes nothing.
 use Prim.Native.Nat.{◌-◌, ◌≤◌}
-use mathlib.Core.Path.{◌≡◌}
-use borrow.Author.Rules.{rules}
-use native.Mathlib.Omega.{arith}
 use Rattle.rules.specs.Making.{JoinedRow}
-use Rattle.rules.proofs.Joining.{row-none, row_more}
 use Rattle.rules.proofs.rows.join_row.Given as goal
 
 abbrev pub invariant-loop-timer : goal.invariant-loop-timer

@@ -1,11 +1,8 @@
 -- `rules::rows::put` meets its contract. The loop's invariant: the first i bytes are written. Assumes nothing.
 use Prim.Native.Nat.{◌*◌, ◌-◌, ◌≤◌}
-use mathlib.Core.Path.{◌≡◌, refl}
-use borrow.Author.Rules.{rules}
-use native.Mathlib.Omega.{arith}
+use mathlib.Core.Path.{◌≡◌}
 use lib.ListN.{get_or}
 use Rattle.rules.specs.Making.{Wrote}
-use Rattle.rules.proofs.Writing.{wrote_none, wrote-more}
 use Rattle.rules.proofs.rows.put.Given as goal
 
 abbrev pub invariant-loop-i : goal.invariant-loop-i

@@ -1,7 +1,6 @@
 -- `search::edges::image_of` meets its contract.
 -- Assumes nothing.
 use native.Mathlib.Omega.{arith}
-use borrow.Author.Rules.{rules}
 use Prim.Native.Nat.{◌+◌, ◌<◌}
 use Rattle.space.specs.Laws.Shares.{block_within}
 use Rattle.space.proofs.Settings.{place-mode, top_seen, top_below, corner-below}

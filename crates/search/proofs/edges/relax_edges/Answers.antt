@@ -1,7 +1,6 @@
 -- `relax_edges` meets its contract.
 -- Assumes nothing.
 use native.Mathlib.Omega.{arith}
-use borrow.Author.Rules.{rules}
 use Rattle.search.proofs.AllEdges.{edges-long, edges-again, edges-done}
 use Rattle.search.proofs.edges.relax_edges.Goals as goal
 

@@ -4,8 +4,8 @@
 use mathlib.Core.Path.{refl}
 use native.Mathlib.Omega.{arith}
 use Rattle.space.specs.Laws.NodeRegion.{region-ready, corner-at}
-use Rattle.search.proofs.Turning.{turns_left, turn-none}
-use Rattle.search.proofs.Settling.{Turn, turn-starts, AtNode, node-room, turn-goal, edges-ready, settle-ready, next-room, turn-next, turn-less}
+use Rattle.search.proofs.Turning.{turn-none}
+use Rattle.search.proofs.Settling.{turn-starts, AtNode, node-room, turn-goal, edges-ready, settle-ready, next-room, turn-next, turn-less}
 use Rattle.search.proofs.settle.settle_all.Goals.{After-region_at-at}
 use Rattle.search.proofs.settle.settle_all.Goals as goal
 

@@ -1,13 +1,12 @@
 -- `search::words::fill` meets its contract. The loop's invariant: the first i words are x, and the others are as they were. The measure is n
 -- less i.
 -- Assumes nothing.
-use mathlib.Core.Path.{◌≡◌, refl, ◌∙◌, ap}
+use mathlib.Core.Path.{◌≡◌, refl, ap}
 use mathlib.Core.List.{List, [], ◌∷◌, ◌++◌}
 use Prim.Native.Nat.{ℕ, zero, suc, ◌+◌, ◌-◌, ◌≤◌, ◌<◌}
 use native.Mathlib.Omega.{arith}
 use native.Mathlib.Numerals.{add-one}
 use lib.ListN.{length, set, drop, replicate}
-use borrow.Author.Rules.{rules}
 use Rattle.search.proofs.words.fill.Given as goal
 
 -- The list with its first n elements replaced by x.

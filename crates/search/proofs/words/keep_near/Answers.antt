@@ -1,12 +1,10 @@
 -- `words::keep_near` meets its contract. The loop's invariant: the words of the nodes before this one are done, and all others are the same.
 -- Assumes nothing.
-use mathlib.Core.Logic.{⊎_elim}
 use mathlib.Core.Path.{◌≡◌, sym}
 use mathlib.Core.Bool.{cond}
-use Prim.Native.Nat.{◌+◌, ◌*◌, ◌-◌, ◌≤◌, ◌<◌}
+use Prim.Native.Nat.{◌+◌, ◌*◌, ◌≤◌, ◌<◌}
 use native.Mathlib.Omega.{arith}
-use lib.ListN.{length, set, length-set}
-use borrow.Author.Rules.{rules}
+use lib.ListN.{set, length-set}
 use Rattle.semantics.specs.Graph.Path.{infinity}
 use Rattle.search.proofs.Keeping.{Keeping, keeping_none, keeping-chosen, keeping_all}
 use Rattle.search.proofs.words.keep_near.Goals.{then-near, else-near, then-near-2, else-near-2}

@@ -1,12 +1,8 @@
 -- `words::seed` meets its contract.
 -- Assumes nothing.
-use mathlib.Core.Path.{◌≡◌, sym}
-use mathlib.Core.List.{◌++◌}
+use mathlib.Core.Path.{sym}
 use Prim.Native.Nat.{◌*◌}
-use borrow.Author.Rules.{rules}
-use lib.ListN.{drop}
 use lib.Seq.{length-take-le}
-use Rattle.search.specs.Finding.{blank_words}
 use Rattle.search.proofs.Seeding.{blank-is, seed-ready, seeds}
 use Rattle.search.proofs.words.seed.Goals as goal
 

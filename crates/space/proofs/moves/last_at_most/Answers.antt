@@ -1,12 +1,7 @@
 -- `space::moves::last_at_most` meets its contract. The loop's invariant: the prices after i are above the bound. The measure is i.
 -- Assumes nothing.
-use mathlib.Core.Path.{◌≡◌}
-use mathlib.Core.List.{List}
-use Prim.Native.Nat.{ℕ, zero, suc, ◌-◌, ◌≤◌, ◌<◌}
-use native.Mathlib.Decide.{ℕ_discrete}
+use Prim.Native.Nat.{◌<◌}
 use native.Mathlib.Omega.{arith}
-use lib.ListN.{get_or}
-use borrow.Author.Rules.{rules}
 use Rattle.space.proofs.moves.last_at_most.Invariants.{not_first, above_more}
 use Rattle.space.proofs.moves.last_at_most.Goals as goal
 

@@ -2,15 +2,10 @@
 -- the present one in their windows. The outer measure is what is left to 64.
 -- Assumes nothing.
 use mathlib.Core.List.{List}
-use Prim.Native.Nat.{ℕ, ◌+◌, ◌-◌, ◌≤◌, ◌<◌}
-use native.Mathlib.Omega.{arith}
-use borrow.Author.Tests.{not-true, not-false}
-use lib.ListN.{length}
-use Rattle.table.specs.Held.{automaton_of}
-use Rattle.rules.proofs.TimerTests.{InUpTo, in-more}
-use Rattle.space.specs.Moves.{Open, NextFrom}
-use Rattle.space.proofs.OpenMoves.{Passing, passing-none, passing-more, passing-open, passing-all, shuts, now-open}
-use Rattle.space.proofs.MovesFrom.{next-rises}
+use Prim.Native.Nat.{ℕ, ◌+◌, ◌-◌, ◌≤◌}
+use Rattle.rules.proofs.TimerTests.{InUpTo}
+use Rattle.space.specs.Moves.{NextFrom}
+use Rattle.space.proofs.OpenMoves.{Passing}
 use Rattle.space.proofs.moves.next_move.Given as goal
 
 abbrev pub invariant-loop-timer : goal.invariant-loop-timer

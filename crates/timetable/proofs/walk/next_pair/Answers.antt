@@ -1,10 +1,9 @@
 -- `timetable::walk::next_pair` meets its contract. The loop is at a label, and no edge with a label below it is tight.
 -- Assumes nothing.
-use Prim.Native.Nat.{◌-◌, ◌<◌}
+use Prim.Native.Nat.{◌<◌}
 use native.Mathlib.Omega.{arith}
-use borrow.Author.Rules.{rules}
 use Rattle.timetable.proofs.AfterWaits.{label-parts}
-use Rattle.timetable.proofs.NextPairs.{NoneBelow, node-ready, ceiling-first, value-first, node-standing}
+use Rattle.timetable.proofs.NextPairs.{node-ready, ceiling-first, value-first, node-standing}
 use Rattle.timetable.proofs.NextPairs.{next-none, none-begins, none-later, next-found}
 use Rattle.timetable.proofs.walk.next_pair.Goals.{In-loop-label}
 use Rattle.timetable.proofs.walk.next_pair.Goals as goal

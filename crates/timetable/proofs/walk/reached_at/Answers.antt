@@ -1,7 +1,6 @@
 -- `timetable::walk::reached_at` meets its contract.
 -- Assumes nothing.
 use borrow.Author.Tests.{eqb-true, eq-eqb}
-use borrow.Author.Rules.{rules}
 use Rattle.steps.proofs.Sets.{refutes}
 use Rattle.timetable.proofs.walk.reached_at.Goals as goal
 

@@ -1,6 +1,5 @@
 -- `timetable::walk::tight_after` meets its contract.
 -- Assumes nothing.
-use borrow.Author.Rules.{rules}
 use Rattle.timetable.proofs.AfterWaits.{after-wait-ready, later-ready, after-move-ready, after-move, after_none}
 use Rattle.timetable.proofs.walk.tight_after.Goals as goal
 

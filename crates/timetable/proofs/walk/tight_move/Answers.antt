@@ -1,13 +1,13 @@
 -- `timetable::walk::tight_move` meets its contract. The loop is at a move that is not passed over, and no edge of those before it is tight.
 -- Assumes nothing.
-use Prim.Native.Nat.{◌-◌, ◌+◌, ◌<◌}
+use Prim.Native.Nat.{◌+◌, ◌<◌}
 use native.Mathlib.Omega.{arith}
 use lib.ListN.{length}
 use Rattle.table.specs.Held.{automaton_of}
 use Rattle.table.specs.Theorems.Access.{price-within}
 use Rattle.space.specs.Moves.{OpenMove, OpenFrom}
 use Rattle.space.proofs.MovesFrom.{next-ready, open_after}
-use Rattle.timetable.proofs.Tightness.{NoneTo, node-mode, move-room, move-sum, none_first, none-next, move-found, move-none}
+use Rattle.timetable.proofs.Tightness.{node-mode, move-room, move-sum, none_first, none-next, move-found, move-none}
 use Rattle.timetable.proofs.walk.tight_move.Goals.{After-next_move-e, In-loop-e}
 use Rattle.timetable.proofs.walk.tight_move.Goals as goal
 
@@ -85,12 +85,11 @@ pub loop-e-smaller : goal.loop-e-smaller
 loop-e-smaller c = omega (arith, (next c).low)
 
 pub loop-e-preserved : goal.loop-e-preserved
-loop-e-preserved c =
-    (
-      (next c).move,
-      none-next c.halves-halves.ensures c.loop-e.invariant.1 c.loop-e-test.true (here (goal.at.loop-e-preserved c).In-loop-e) c.lead-node.ensures
-          c.price.ensures c.reached_at.ensures c.if-reached_at.false (next c),
-    )
+loop-e-preserved c = (
+  (next c).move,
+  none-next c.halves-halves.ensures c.loop-e.invariant.1 c.loop-e-test.true (here (goal.at.loop-e-preserved c).In-loop-e) c.lead-node.ensures
+      c.price.ensures c.reached_at.ensures c.if-reached_at.false (next c),
+)
 
 pub returns : goal.returns
 returns c =

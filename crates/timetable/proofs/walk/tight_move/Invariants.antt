@@ -1,13 +1,8 @@
 -- `timetable::walk::tight_move` meets its contract. The loop is at a move that is not passed over, and no edge of those before it is tight.
 -- Assumes nothing.
-use Prim.Native.Nat.{◌-◌, ◌+◌, ◌<◌}
-use native.Mathlib.Omega.{arith}
-use lib.ListN.{length}
-use Rattle.table.specs.Held.{automaton_of}
-use Rattle.table.specs.Theorems.Access.{price-within}
-use Rattle.space.specs.Moves.{OpenMove, OpenFrom}
-use Rattle.space.proofs.MovesFrom.{next-ready, open_after}
-use Rattle.timetable.proofs.Tightness.{NoneTo, node-mode, move-room, move-sum, none_first, none-next, move-found, move-none}
+use Prim.Native.Nat.{◌-◌}
+use Rattle.space.specs.Moves.{OpenMove}
+use Rattle.timetable.proofs.Tightness.{NoneTo}
 use Rattle.timetable.proofs.walk.tight_move.Given as goal
 
 abbrev pub invariant-loop-e : goal.invariant-loop-e

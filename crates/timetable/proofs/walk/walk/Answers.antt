@@ -2,13 +2,10 @@
 -- Assumes nothing.
 use mathlib.Core.Path.{sym, ◌∙◌}
 use mathlib.Core.Logic.{◌≢◌}
-use Prim.Native.Nat.{◌*◌, ◌/◌}
+use Prim.Native.Nat.{◌/◌}
 use native.Mathlib.Omega.{arith}
-use lib.ListN.{length, take}
 use Rattle.table.specs.Held.{automaton_of}
-use Rattle.route.proofs.Live.{turns}
-use Rattle.timetable.specs.Walk.{WalkReady}
-use Rattle.timetable.proofs.Walking.{cells-some, Walking, walking-begins, entry_here, ready, walking-ends}
+use Rattle.timetable.proofs.Walking.{cells-some, walking-begins, entry_here, ready, walking-ends}
 use Rattle.timetable.proofs.StepFurther.{advance-ready, walking-advances, fewer-advance}
 use Rattle.timetable.proofs.StepBack.{backtrack-ready, walking-backtracks, fewer-backtrack}
 use Rattle.timetable.proofs.walk.walk.Goals.{In-loop-states}

@@ -15,7 +15,7 @@ use Rattle.search.specs.Outcome.{most_nodes, nodes_of}
 use Rattle.route.specs.declared.Needs.{Needs}
 use Rattle.route.specs.declared.Needs.TheVariants.{Refused, Memory}
 use Rattle.route.specs.Lend.{needed_table, needed_judged, needed, Enough}
-use Rattle.route.specs.Lent.{needed-enough}
+use Rattle.route.proofs.Lent.{needed-enough}
 
 -- From the count of the nodes.
 module _ (a : Automaton) (n : ℕ) where

@@ -12,5 +12,6 @@ pub mod StepBack
 pub mod Answering
 -- And from the bytes to the outcome.
 pub mod Planning
--- How much to lend.
+-- How much to lend: the definitions keep their promise, and the calls theirs.
+pub mod Lent
 pub mod Lending

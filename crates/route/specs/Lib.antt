@@ -1,9 +1,8 @@
 -- What the contract of planning means.
 pub mod Plan
 pub mod Promise
--- What the contract of the call that says how much to lend means, and that the definitions keep its promise.
+-- What the contract of the call that says how much to lend means.
 pub mod Lend
-pub mod Lent
 -- Document 01's table of refusals, and that planning refuses by it.
 pub mod Refusals
 pub mod Refused

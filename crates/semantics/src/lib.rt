@@ -1,2 +1,2 @@
-// Definitions and theorems about priced timed automata. They stand in specs/; there is no code.
+// Priced timed automata: definitions stand in specs/, and theorems there and in proofs/; there is no code.
 #![tactic(auto)]

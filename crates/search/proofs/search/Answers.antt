@@ -29,18 +29,18 @@ seed-requires c = seeding (searching c)
 
 pub settle_all-best-requires : goal.settle_all-best-requires
 settle_all-best-requires c =
-    finding (searching c.before.before.before.before) c.args.goal c.seed.new.words c.seed.ensures
+    finding (searching (goal.at.settle_all-best-requires c).After-start_node) c.args.goal c.seed.new.words c.seed.ensures
 
 pub keep_near-requires : goal.keep_near-requires
 keep_near-requires c =
-    keeping (searching c.before.before.before.before.before.before.before.before) c.args.goal c.seed.new.words c.seed.ensures c.settle_all-best.result c.settle_all-best.new.words
+    keeping (searching (goal.at.keep_near-requires c).After-start_node) c.args.goal c.seed.new.words c.seed.ensures c.settle_all-best.result c.settle_all-best.new.words
     c.settle_all-best.ensures
 
 pub returns : goal.returns
 returns c =
     let e = sym c.room-answer.ensures ∙ c.in-Nodes.is in record {
       answer = sym e;
-      words = near-found (searching c.before.before.before.before.before.before.before.before.before.before.before.before) c.args.goal c.seed.new.words c.seed.ensures c.settle_all-best.result
+      words = near-found (searching (goal.at.returns c).After-start_node) c.args.goal c.seed.new.words c.seed.ensures c.settle_all-best.result
           c.settle_all-best.new.words c.settle_all-best.ensures c.keep_near.new.words c.keep_near.ensures
           ∙ searched-nodes (automaton_of c.args.table.now) c.args.goal c.args.words.now c.in-Nodes.n e;
     }

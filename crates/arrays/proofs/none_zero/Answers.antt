@@ -10,6 +10,7 @@ use lib.Dec.{eqb}
 use lib.ListN.{length, take}
 use Rattle.semantics.specs.Region.{count}
 use Rattle.arrays.proofs.Turns.{count-miss, count-found}
+use Rattle.arrays.proofs.none_zero.Goals.{At-loop-i}
 use Rattle.arrays.proofs.none_zero.Goals as goal
 
 pub returns-then-group-i-eq0 : goal.returns-then-group-i-eq0
@@ -26,16 +27,15 @@ loop-i-preserved c =
     let h : i < length l = search rules in
     (omega arith, sym (count-miss 0 i l h c.if-group-i-eq0.false) ∙ c.loop-i.invariant.1)
 
-pub returns-then-n-i : goal.returns-then-n-i
-returns-then-n-i c =
-    let none_found : c.args.n ≤ c.loop-i.i → true ≡ eqb (count 0 (take c.args.n c.args.group)) 0 = λ past. let args = c.args in
+-- The loop ends at the last of them.
+none_found : (c : At-loop-i) → c.args.n ≤ c.loop-i.i → true ≡ eqb (count 0 (take c.args.n c.args.group)) 0
+none_found c past =
+    let args = c.args in
     let e : c.loop-i.i ≡ args.n = omega arith in
-    sym (eq-eqb _ 0 (ap (λ (m : ℕ). count 0 (take m args.group)) (sym e) ∙ c.loop-i.invariant.1)) in
-    none_found c.if-n-i.true
+    sym (eq-eqb _ 0 (ap (λ (m : ℕ). count 0 (take m args.group)) (sym e) ∙ c.loop-i.invariant.1))
+
+pub returns-then-n-i : goal.returns-then-n-i
+returns-then-n-i c = none_found (goal.at.returns-then-n-i c).At-loop-i c.if-n-i.true
 
 pub returns : goal.returns
-returns c =
-    let none_found : c.args.n ≤ c.loop-i.i → true ≡ eqb (count 0 (take c.args.n c.args.group)) 0 = λ past. let args = c.args in
-    let e : c.loop-i.i ≡ args.n = omega arith in
-    sym (eq-eqb _ 0 (ap (λ (m : ℕ). count 0 (take m args.group)) (sym e) ∙ c.loop-i.invariant.1)) in
-    none_found (omega arith)
+returns c = none_found (goal.at.returns c).At-loop-i (omega arith)

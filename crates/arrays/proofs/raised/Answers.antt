@@ -8,6 +8,7 @@ use borrow.Author.Rules.{rules}
 use lib.ListN.{length, get_or}
 use Rattle.arrays.specs.Arrays.{map_to}
 use Rattle.arrays.proofs.Turns.{map_to-more}
+use Rattle.arrays.proofs.raised.Goals.{At-loop-i}
 use Rattle.arrays.proofs.raised.Goals as goal
 
 pub overflow_add-next : goal.overflow_add-next
@@ -20,16 +21,15 @@ loop-i-preserved c =
     let h : i < length l = search rules in
     (omega arith, rw (c.loop-i.invariant.1, add-one (get_or l i 0)) (map_to-more suc i l h))
 
-pub returns-then-n-i : goal.returns-then-n-i
-returns-then-n-i c =
-    let all-raised : c.args.n ≤ c.loop-i.i → c.loop-i.next ≡ map_to suc c.args.n c.args.group = λ past. let args = c.args in
+-- The loop ends at the last of them.
+all-raised : (c : At-loop-i) → c.args.n ≤ c.loop-i.i → c.loop-i.next ≡ map_to suc c.args.n c.args.group
+all-raised c past =
+    let args = c.args in
     let e : c.loop-i.i ≡ args.n = omega arith in
-    c.loop-i.invariant.1 ∙ ap (λ (m : ℕ). map_to suc m args.group) e in
-    all-raised c.if-n-i.true
+    c.loop-i.invariant.1 ∙ ap (λ (m : ℕ). map_to suc m args.group) e
+
+pub returns-then-n-i : goal.returns-then-n-i
+returns-then-n-i c = all-raised (goal.at.returns-then-n-i c).At-loop-i c.if-n-i.true
 
 pub returns : goal.returns
-returns c =
-    let all-raised : c.args.n ≤ c.loop-i.i → c.loop-i.next ≡ map_to suc c.args.n c.args.group = λ past. let args = c.args in
-    let e : c.loop-i.i ≡ args.n = omega arith in
-    c.loop-i.invariant.1 ∙ ap (λ (m : ℕ). map_to suc m args.group) e in
-    all-raised (omega arith)
+returns c = all-raised (goal.at.returns c).At-loop-i (omega arith)

@@ -7,11 +7,11 @@ use Rattle.queue.specs.Queue.{lows, slot_at, key}
 use Rattle.queue.specs.Playing.{Seat, put}
 use Rattle.queue.proofs.Slots.{seat-words, key-lows, seat, put-puts}
 use Rattle.queue.proofs.Replays.{Taken, replayed-start, beside-seated, match-seated, replayed-up, replayed-end}
-use Rattle.queue.proofs.settle.Goals.{then-ahead, else-ahead}
+use Rattle.queue.proofs.settle.Goals.{After-winner-other, In-loop-place, Joined-ahead, then-ahead, else-ahead}
 use Rattle.queue.proofs.settle.Goals as goal
 
 -- Slot 0 is in no match: whoever wins the one above this place, it stays.
-outside : (c : goal.In-loop-place) → (b : ℕ)
+outside : (c : In-loop-place) → (b : ℕ)
     → slot_at (put c.loop-place.words (c.loop-place.place / 2) b) 0 ≡ slot_at c.args.words.now 0
 outside c b =
     let n = c.args.nodes in
@@ -37,7 +37,7 @@ winner-other-requires c =
     record { words = r.words; low = omega (arith, r.low, r.high); high = omega (arith, r.low, r.high) }
 
 -- Who has won at the other place may be tested.
-other-seat : (c : goal.After-winner-other) → Seat c.loop-place.words c.winner-other.result
+other-seat : (c : After-winner-other) → Seat c.loop-place.words c.winner-other.result
 other-seat c =
     let loop = c.loop-place in
     let n = c.args.nodes in
@@ -46,47 +46,46 @@ other-seat c =
     (beside-seated n k c.args.words.now loop.words loop.place loop.best loop.least (omega arith) loop.invariant.1
     c.winner-other.result c.winner-other.ensures)
 
+-- Whichever way the test goes.
+taken :
+    (c : Joined-ahead)
+    → Taken c.loop-place.words c.loop-place.best c.loop-place.least c.winner-other.result c.if-ahead.best c.if-ahead.least
+taken c =
+    let told = c.ahead.ensures in
+    elim c.if-ahead.branch [
+      | then-ahead w ↦ inl (w.best-is, w.least-is ∙ w.key-least.ensures, told.ahead w.if-ahead.true)
+      | else-ahead w ↦ inr (w.best-is, w.least-is, told.behind w.if-ahead.false)
+    ]
+
 pub ahead-requires : goal.ahead-requires
 ahead-requires c = other-seat c
 
 pub key-least-requires : goal.key-least-requires
 key-least-requires c =
-    seat-words c.loop-place.words c.winner-other.result (other-seat c.before.before)
+    seat-words c.loop-place.words c.winner-other.result (other-seat (goal.at.key-least-requires c).After-winner-other)
     (c.ahead.ensures.ahead c.if-ahead.true).0
 
 pub set_slot-requires : goal.set_slot-requires
 set_slot-requires c =
-    let told = c.ahead.ensures in
-    let taken : Taken c.loop-place.words c.loop-place.best c.loop-place.least c.winner-other.result c.if-ahead.best c.if-ahead.least =
-    elim c.if-ahead.branch [
-      | then-ahead w ↦ inl (w.best-is, w.least-is ∙ w.key-least.ensures, told.ahead w.if-ahead.true)
-      | else-ahead w ↦ inr (w.best-is, w.least-is, told.behind w.if-ahead.false)
-    ] in
     let loop = c.loop-place in
     let k = c.key-settled.result in
     let r = loop.invariant.1 in (
       omega (arith, r.high, r.words),
       ⊎_elim (λ e. omega arith) (λ h. omega (arith, r.words))
           (match-seated c.args.nodes k c.args.words.now loop.words loop.place loop.best loop.least (omega arith) r
-          c.winner-other.result c.winner-other.ensures c.if-ahead.best c.if-ahead.least taken),
+          c.winner-other.result c.winner-other.ensures c.if-ahead.best c.if-ahead.least (taken (goal.at.set_slot-requires c).Joined-ahead)),
     )
 
 pub loop-place-preserved : goal.loop-place-preserved
 loop-place-preserved c =
-    let told = c.ahead.ensures in
-    let taken : Taken c.loop-place.words c.loop-place.best c.loop-place.least c.winner-other.result c.if-ahead.best c.if-ahead.least =
-    elim c.if-ahead.branch [
-      | then-ahead w ↦ inl (w.best-is, w.least-is ∙ w.key-least.ensures, told.ahead w.if-ahead.true)
-      | else-ahead w ↦ inr (w.best-is, w.least-is, told.behind w.if-ahead.false)
-    ] in
     let loop = c.loop-place in
     let k = c.key-settled.result in (
       loop.invariant.0,
       rw c.set_slot.ensures
           (replayed-up c.args.nodes k c.args.words.now loop.words loop.place loop.best loop.least (omega arith)
           loop.invariant.1
-          c.winner-other.result c.winner-other.ensures c.if-ahead.best c.if-ahead.least taken),
-      rw c.set_slot.ensures (outside c.before.before.before.before.before.before.before.before c.if-ahead.best),
+          c.winner-other.result c.winner-other.ensures c.if-ahead.best c.if-ahead.least (taken (goal.at.loop-place-preserved c).Joined-ahead)),
+      rw c.set_slot.ensures (outside (goal.at.loop-place-preserved c).In-loop-place c.if-ahead.best),
     )
 
 pub returns : goal.returns

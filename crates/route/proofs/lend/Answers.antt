@@ -31,5 +31,6 @@ returns-in-Accepted c =
     let t = c.read-verdict.new.table in
     let e =
     c.memory_of.ensures
-    ∙ needed-accepted bytes t (accepted-read bytes t c.read-verdict.result (small (goal.at.returns-in-Accepted c).After-read-verdict) c.read-verdict.ensures c.in-Accepted.is) in
+    ∙ needed-accepted bytes t (accepted-read bytes t c.read-verdict.result (small (goal.at.returns-in-Accepted c).After-read-verdict)
+    c.read-verdict.ensures c.in-Accepted.is) in
     record { needs = e; promise = needs-enough bytes _ e }

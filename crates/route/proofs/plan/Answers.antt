@@ -38,5 +38,6 @@ returns-in-Accepted c =
     let t = c.read-verdict.new.table in
     let e =
     c.plan_table.ensures
-    ∙ planned-accepted bytes ws rs t (accepted-read bytes t c.read-verdict.result (small (goal.at.returns-in-Accepted c).After-read-verdict) c.read-verdict.ensures c.in-Accepted.is) in
+    ∙ planned-accepted bytes ws rs t (accepted-read bytes t c.read-verdict.result (small (goal.at.returns-in-Accepted c).After-read-verdict)
+    c.read-verdict.ensures c.in-Accepted.is) in
     record { outcome = e; demand = outcome-keeps bytes ws c.plan_table.new.words rs c.plan_table.new.route c.plan_table.result e }

@@ -38,5 +38,6 @@ returns-in-Accepted c =
     let t = c.read-verdict.new.table in
     let e =
     c.timetable_of.ensures
-    ∙ timetabled-accepted bytes ws rs t (accepted-read bytes t c.read-verdict.result (small (goal.at.returns-in-Accepted c).After-read-verdict) c.read-verdict.ensures c.in-Accepted.is) in
+    ∙ timetabled-accepted bytes ws rs t (accepted-read bytes t c.read-verdict.result (small (goal.at.returns-in-Accepted c).After-read-verdict)
+    c.read-verdict.ensures c.in-Accepted.is) in
     record { outcome = e; promise = outcome-keeps bytes ws c.timetable_of.new.words rs c.timetable_of.new.route c.timetable_of.result e }

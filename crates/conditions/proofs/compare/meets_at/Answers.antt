@@ -1,4 +1,4 @@
--- `conditions::compare::meets_at_lem` meets its contract.
+-- `conditions::compare::meets_at` meets its contract.
 -- Assumes nothing.
 use borrow.Author.Tests.{eq-eqb, ne_eqb}
 use native.Mathlib.Omega.{arith}

@@ -7,7 +7,16 @@ use lib.ListN.{get_or}
 use Rattle.regions.specs.Held.{view}
 use Rattle.regions.specs.Laws.Fields.{holds, timers-is, group-few}
 use Rattle.regions.proofs.Numbers.{number_is}
+use Rattle.regions.proofs.Region.corner.Goals.{Start}
 use Rattle.regions.proofs.Region.corner.Goals as goal
+
+-- Timers and groups are few, so that the place is in the table.
+few : (c : Start) → let s = c.args.self in
+    (s.timers ≤ 3) × (get_or s.group 0 0 ≤ 3) × (get_or s.group 1 0 ≤ 3) × (get_or s.group 2 0 ≤ 3)
+few c =
+    let s = c.args.self in
+    let at = group-few s (view s) (holds s c.requires.0) in
+    (c.requires.0.few, at 0, at 1, at 2)
 
 pub overflow_sub-place : goal.overflow_sub-place
 overflow_sub-place c =
@@ -15,60 +24,25 @@ overflow_sub-place c =
     omega (arith, timers-is s (view s) (holds s c.requires.0), c.requires.0.well_formed.some)
 
 pub overflow_add-place : goal.overflow_add-place
-overflow_add-place c =
-    let few : let s = c.args.self in
-    (s.timers ≤ 3) × (get_or s.group 0 0 ≤ 3) × (get_or s.group 1 0 ≤ 3) × (get_or s.group 2 0 ≤ 3) = let s = c.args.self in
-    let at = group-few s (view s) (holds s c.requires.0) in
-    (c.requires.0.few, at 0, at 1, at 2) in
-    omega (arith, few)
+overflow_add-place c = omega (arith, few (goal.at.overflow_add-place c).Start)
 
 pub overflow_mul-place : goal.overflow_mul-place
-overflow_mul-place c =
-    let few : let s = c.args.self in
-    (s.timers ≤ 3) × (get_or s.group 0 0 ≤ 3) × (get_or s.group 1 0 ≤ 3) × (get_or s.group 2 0 ≤ 3) = let s = c.args.self in
-    let at = group-few s (view s) (holds s c.requires.0) in
-    (c.requires.0.few, at 0, at 1, at 2) in
-    omega (arith, few)
+overflow_mul-place c = omega (arith, few (goal.at.overflow_mul-place c).Start)
 
 pub overflow_mul-place-2 : goal.overflow_mul-place-2
-overflow_mul-place-2 c =
-    let few : let s = c.args.self in
-    (s.timers ≤ 3) × (get_or s.group 0 0 ≤ 3) × (get_or s.group 1 0 ≤ 3) × (get_or s.group 2 0 ≤ 3) = let s = c.args.self in
-    let at = group-few s (view s) (holds s c.requires.0) in
-    (c.requires.0.few, at 0, at 1, at 2) in
-    omega (arith, few)
+overflow_mul-place-2 c = omega (arith, few (goal.at.overflow_mul-place-2 c).Start)
 
 pub overflow_add-place-2 : goal.overflow_add-place-2
-overflow_add-place-2 c =
-    let few : let s = c.args.self in
-    (s.timers ≤ 3) × (get_or s.group 0 0 ≤ 3) × (get_or s.group 1 0 ≤ 3) × (get_or s.group 2 0 ≤ 3) = let s = c.args.self in
-    let at = group-few s (view s) (holds s c.requires.0) in
-    (c.requires.0.few, at 0, at 1, at 2) in
-    omega (arith, few)
+overflow_add-place-2 c = omega (arith, few (goal.at.overflow_add-place-2 c).Start)
 
 pub overflow_add-place-3 : goal.overflow_add-place-3
-overflow_add-place-3 c =
-    let few : let s = c.args.self in
-    (s.timers ≤ 3) × (get_or s.group 0 0 ≤ 3) × (get_or s.group 1 0 ≤ 3) × (get_or s.group 2 0 ≤ 3) = let s = c.args.self in
-    let at = group-few s (view s) (holds s c.requires.0) in
-    (c.requires.0.few, at 0, at 1, at 2) in
-    omega (arith, few)
+overflow_add-place-3 c = omega (arith, few (goal.at.overflow_add-place-3 c).Start)
 
 pub overflow_cast-place : goal.overflow_cast-place
-overflow_cast-place c =
-    let few : let s = c.args.self in
-    (s.timers ≤ 3) × (get_or s.group 0 0 ≤ 3) × (get_or s.group 1 0 ≤ 3) × (get_or s.group 2 0 ≤ 3) = let s = c.args.self in
-    let at = group-few s (view s) (holds s c.requires.0) in
-    (c.requires.0.few, at 0, at 1, at 2) in
-    omega (arith, few)
+overflow_cast-place c = omega (arith, few (goal.at.overflow_cast-place c).Start)
 
 pub first_corner-requires : goal.first_corner-requires
-first_corner-requires c =
-    let few : let s = c.args.self in
-    (s.timers ≤ 3) × (get_or s.group 0 0 ≤ 3) × (get_or s.group 1 0 ≤ 3) × (get_or s.group 2 0 ≤ 3) = let s = c.args.self in
-    let at = group-few s (view s) (holds s c.requires.0) in
-    (c.requires.0.few, at 0, at 1, at 2) in
-    omega (arith, few)
+first_corner-requires c = omega (arith, few (goal.at.first_corner-requires c).Start)
 
 pub returns : goal.returns
 returns c =

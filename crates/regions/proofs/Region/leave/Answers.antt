@@ -6,13 +6,22 @@ use lib.ListN.{get_or}
 use Rattle.regions.specs.Held.{view}
 use Rattle.regions.specs.Laws.Fields.{holds, top-fewer, price-at, group-few}
 use Rattle.regions.proofs.Methods.{zero-some, left_is}
+use Rattle.regions.proofs.Region.leave.Goals.{Start}
 use Rattle.regions.proofs.Region.leave.Goals as goal
 
+-- There is a place for one price more, and room for the rate.
+place : (c : Start) → c.args.self.top < 3
+place c =
+    let s = c.args.self in
+    top-fewer s (view s) (holds s c.requires.0) (zero-some (view s) c.requires.2)
+
+room : (c : Start) → (i : ℕ) → get_or c.args.self.prices i 0 + c.args.rate < 2 ^ 32
+room c i =
+    let s = c.args.self in
+    rw (price-at s (view s) (holds s c.requires.0) i) (c.requires.1 i)
+
 pub overflow_add-top : goal.overflow_add-top
-overflow_add-top c =
-    let place : c.args.self.top < 3 = let s = c.args.self in
-    top-fewer s (view s) (holds s c.requires.0) (zero-some (view s) c.requires.2) in
-    omega (arith, place)
+overflow_add-top c = omega (arith, place c)
 
 pub raised-group-requires : goal.raised-group-requires
 raised-group-requires c =
@@ -21,16 +30,10 @@ raised-group-requires c =
     (c.requires.0.few, λ i. omega (arith, group-few s (view s) h i))
 
 pub overflow_add-self : goal.overflow_add-self
-overflow_add-self c =
-    let room : (i : ℕ) → get_or c.args.self.prices i 0 + c.args.rate < 2 ^ 32 = λ i. let s = c.args.self in
-    rw (price-at s (view s) (holds s c.requires.0) i) (c.requires.1 i) in
-    record { fits = room _ }
+overflow_add-self c = record { fits = room (goal.at.overflow_add-self c).Start _ }
 
 pub bounds-self-top : goal.bounds-self-top
-bounds-self-top c =
-    let place : c.args.self.top < 3 = let s = c.args.self in
-    top-fewer s (view s) (holds s c.requires.0) (zero-some (view s) c.requires.2) in
-    omega (arith, place)
+bounds-self-top c = omega (arith, place (goal.at.bounds-self-top c).Start)
 
 pub returns : goal.returns
 returns c =

@@ -6,37 +6,27 @@ use lib.ListN.{get_or}
 use Rattle.regions.specs.Held.{view}
 use Rattle.regions.specs.Laws.Fields.{holds, top-few, group-top}
 use Rattle.regions.proofs.Methods.{alone-pos, reset-alone-is}
+use Rattle.regions.proofs.Region.reset_alone.Goals.{Start}
 use Rattle.regions.proofs.Region.reset_alone.Goals as goal
 
-pub overflow_sub-top : goal.overflow_sub-top
-overflow_sub-top c =
-    let gone : (0 < get_or c.args.self.group c.args.timer 0)
+-- The group that is gone is one of 1 to k.
+gone : (c : Start) → (0 < get_or c.args.self.group c.args.timer 0)
     × (get_or c.args.self.group c.args.timer 0 ≤ c.args.self.top)
-    × (c.args.self.top ≤ 3) = let s = c.args.self in
+    × (c.args.self.top ≤ 3)
+gone c =
+    let s = c.args.self in
     let h = holds s c.requires.0 in
     let x = c.args.timer in
-    (alone-pos s (view s) h x c.requires.2, group-top s (view s) h x, top-few s (view s) h) in
-    omega (arith, gone)
+    (alone-pos s (view s) h x c.requires.2, group-top s (view s) h x, top-few s (view s) h)
+
+pub overflow_sub-top : goal.overflow_sub-top
+overflow_sub-top c = omega (arith, gone (goal.at.overflow_sub-top c).Start)
 
 pub merged-prices-requires : goal.merged-prices-requires
-merged-prices-requires c =
-    let gone : (0 < get_or c.args.self.group c.args.timer 0)
-    × (get_or c.args.self.group c.args.timer 0 ≤ c.args.self.top)
-    × (c.args.self.top ≤ 3) = let s = c.args.self in
-    let h = holds s c.requires.0 in
-    let x = c.args.timer in
-    (alone-pos s (view s) h x c.requires.2, group-top s (view s) h x, top-few s (view s) h) in
-    omega (arith, gone)
+merged-prices-requires c = omega (arith, gone (goal.at.merged-prices-requires c).Start)
 
 pub overflow_sub-self : goal.overflow_sub-self
-overflow_sub-self c =
-    let gone : (0 < get_or c.args.self.group c.args.timer 0)
-    × (get_or c.args.self.group c.args.timer 0 ≤ c.args.self.top)
-    × (c.args.self.top ≤ 3) = let s = c.args.self in
-    let h = holds s c.requires.0 in
-    let x = c.args.timer in
-    (alone-pos s (view s) h x c.requires.2, group-top s (view s) h x, top-few s (view s) h) in
-    omega (arith, gone)
+overflow_sub-self c = omega (arith, gone (goal.at.overflow_sub-self c).Start)
 
 pub returns : goal.returns
 returns c =

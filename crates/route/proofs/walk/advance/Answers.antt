@@ -1,4 +1,4 @@
--- `route::walk::further` meets its contract.
+-- `route::walk::advance` meets its contract.
 -- Assumes nothing.
 use mathlib.Core.Path.{refl, ap}
 use Prim.Native.Nat.{ℕ, ◌+◌, ◌*◌}

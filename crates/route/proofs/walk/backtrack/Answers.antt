@@ -1,4 +1,4 @@
--- `route::walk::back` meets its contract.
+-- `route::walk::backtrack` meets its contract.
 -- Assumes nothing.
 use mathlib.Core.Path.{refl, ap}
 use Prim.Native.Nat.{ℕ, ◌+◌, ◌/◌, ◌%◌}

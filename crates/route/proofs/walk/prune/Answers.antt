@@ -1,4 +1,4 @@
--- `route::walk::leave` meets its contract. The marked ones of the corners passed were left.
+-- `route::walk::prune` meets its contract. The marked ones of the corners passed were left.
 -- Assumes nothing.
 use mathlib.Core.Path.{◌≡◌, sym, subst, ◌∙◌}
 use mathlib.Core.Bool.{true≢false}

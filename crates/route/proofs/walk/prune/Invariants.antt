@@ -1,4 +1,4 @@
--- `route::walk::leave` meets its contract. The marked ones of the corners passed were left.
+-- `route::walk::prune` meets its contract. The marked ones of the corners passed were left.
 -- Assumes nothing.
 use Prim.Native.Nat.{◌-◌, ◌≤◌}
 use Rattle.route.specs.Walk.{PrunedBelow}

@@ -7,46 +7,43 @@ use Rattle.table.specs.Held.{automaton_of}
 use Rattle.table.specs.Theorems.Access.{target_below}
 use Rattle.rules.proofs.Ordering.{modes-few, moves-few}
 use Rattle.rules.proofs.Joining.{move-resets, rows_none, rows_more}
+use Rattle.rules.proofs.rows.join.Goals.{After-target, In-loop-e}
 use Rattle.rules.proofs.rows.join.Goals as goal
 
-target-few : (c : goal.After-target) → c.target.result < 16
+-- In a turn the move is there, and so is its target.
+there : (c : In-loop-e) → c.loop-e.e < length (automaton_of c.args.table.now).moves
+there c = omega (arith, c.moves-moves.ensures)
+
+target-few : (c : After-target) → c.target.result < 16
 target-few c =
-    let there : c.loop-e.e < length (automaton_of c.args.table.now).moves = omega (arith, c.moves-moves.ensures) in
     let t = c.args.table.now in
-    omega (arith, c.target.ensures, target_below t c.requires.0 c.loop-e.e (there), modes-few t c.requires.0)
+    omega (arith, c.target.ensures, target_below t c.requires.0 c.loop-e.e (there c.before.before), modes-few t c.requires.0)
 
 pub loop-e-init : goal.loop-e-init
 loop-e-init c = (omega arith, rows_none _ _)
 
 pub overflow_add-e : goal.overflow_add-e
-overflow_add-e c =
-    let there : c.loop-e.e < length (automaton_of c.args.table.now).moves = omega (arith, c.moves-moves.ensures) in
-    omega (arith, there, moves-few c.args.table.now c.requires.0)
+overflow_add-e c = omega (arith, there (goal.at.overflow_add-e c).In-loop-e, moves-few c.args.table.now c.requires.0)
 
 pub target-requires : goal.target-requires
-target-requires c =
-    let there : c.loop-e.e < length (automaton_of c.args.table.now).moves = omega (arith, c.moves-moves.ensures) in
-    (c.requires.0, there)
+target-requires c = (c.requires.0, there (goal.at.target-requires c).In-loop-e)
 
 pub resets-requires : goal.resets-requires
-resets-requires c =
-    let there : c.loop-e.e < length (automaton_of c.args.table.now).moves = omega (arith, c.moves-moves.ensures) in
-    (c.requires.0, there)
+resets-requires c = (c.requires.0, there (goal.at.resets-requires c).In-loop-e)
 
 pub join_row-requires : goal.join_row-requires
-join_row-requires c =
-    let there : c.loop-e.e < length (automaton_of c.args.table.now).moves = omega (arith, c.moves-moves.ensures) in (
-      c.loop-e.invariant.1.size ∙ c.requires.1,
-      omega (arith, target-few c.before),
-      omega (arith, there, moves-few c.args.table.now c.requires.0),
-    )
+join_row-requires c = (
+  c.loop-e.invariant.1.size ∙ c.requires.1,
+  omega (arith, target-few (goal.at.join_row-requires c).After-target),
+  omega (arith, there (goal.at.join_row-requires c).In-loop-e, moves-few c.args.table.now c.requires.0),
+)
 
 pub loop-e-preserved : goal.loop-e-preserved
 loop-e-preserved c =
     let t = c.args.table.now in (
       omega arith,
       rows_more (automaton_of t) _ c.loop-e.e c.loop-e.rules _ c.loop-e.invariant.1 _ _
-          (move-resets t c.loop-e.e _ c.resets.ensures) c.target.ensures (target-few c.before.before) c.join_row.ensures,
+          (move-resets t c.loop-e.e _ c.resets.ensures) c.target.ensures (target-few (goal.at.loop-e-preserved c).After-target) c.join_row.ensures,
     )
 
 pub returns : goal.returns

@@ -5,20 +5,22 @@ use Prim.Native.Nat.{◌+◌, ◌<◌}
 use Rattle.space.specs.Laws.Shares.{block_within}
 use Rattle.space.proofs.Settings.{place-mode, top_seen, top_below, corner-below}
 use Rattle.space.proofs.Imaging.{unmoved-image, moved-gives, moved-first, moved-corner, moved_ready, moved-number}
+use Rattle.search.proofs.edges.image_of.Goals.{Start}
 use Rattle.search.proofs.edges.image_of.Goals as goal
 
+-- The node is one of the table's, in its own mode.
+few : (c : Start) → c.args.at.first + c.args.at.index < 65536
+few c =
+    let set = c.requires.setting in
+    omega (arith, corner-below c.requires.corner c.args.at.index c.requires.corner.inside, set.is-space.nodes-are, set.few)
+
 pub overflow_add-at : goal.overflow_add-at
-overflow_add-at c =
-    let few : c.args.at.first + c.args.at.index < 65536 = let set = c.requires.setting in
-    omega (arith, corner-below c.requires.corner c.args.at.index c.requires.corner.inside, set.is-space.nodes-are, set.few) in
-    omega (arith, few)
+overflow_add-at c = omega (arith, few (goal.at.overflow_add-at c).Start)
 
 pub in_mode_0-requires : goal.in_mode_0-requires
 in_mode_0-requires c =
-    let few : c.args.at.first + c.args.at.index < 65536 = let set = c.requires.setting in
-    omega (arith, corner-below c.requires.corner c.args.at.index c.requires.corner.inside, set.is-space.nodes-are, set.few) in
     let set = c.requires.setting in (
-      few,
+      few (goal.at.in_mode_0-requires c).Start,
       place-mode c.requires.table set.is-table _ c.requires.corner.place,
       omega (arith, block_within c.requires.table set.is-table set.is-space, set.few),
       omega (arith, unmoved-image c.requires c.if-resets-eq0.true),

@@ -59,7 +59,8 @@ overflow_add-result c = omega (arith, c.if-step-lt-NONE.true, few-labels (goal.a
 pub returns-then-step-lt-NONE : goal.returns-then-step-lt-NONE
 returns-then-step-lt-NONE c =
     let n = c.requires.at-node in
-    next-found c.loop-label.invariant c.tight_after-step.ensures n (node-standing n c.state_at-at.ensures _) (few-labels (goal.at.returns-then-step-lt-NONE c).In-loop-label) c.if-step-lt-NONE.true
+    next-found c.loop-label.invariant c.tight_after-step.ensures n (node-standing n c.state_at-at.ensures _)
+    (few-labels (goal.at.returns-then-step-lt-NONE c).In-loop-label) c.if-step-lt-NONE.true
 
 pub overflow_sub-label : goal.overflow_sub-label
 overflow_sub-label c = omega (arith, label-parts c.loop-label.label)

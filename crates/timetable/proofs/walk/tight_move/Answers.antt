@@ -1,33 +1,37 @@
 -- `timetable::walk::tight_move` meets its contract. The loop is at a move that is not passed over, and no edge of those before it is tight.
 -- Assumes nothing.
-use Prim.Native.Nat.{◌+◌, ◌<◌}
+use mathlib.Core.List.{List}
+use Prim.Native.Nat.{ℕ, ◌+◌, ◌<◌}
 use native.Mathlib.Omega.{arith}
 use lib.ListN.{length}
 use Rattle.table.specs.Held.{automaton_of}
 use Rattle.table.specs.Theorems.Access.{price-within}
-use Rattle.space.specs.Moves.{OpenMove, OpenFrom}
+use Rattle.space.specs.Moves.{OpenFrom}
 use Rattle.space.proofs.MovesFrom.{next-ready, open_after}
+use Rattle.states.specs.declared.States.{States}
+use Rattle.minutes.specs.declared.waits.Source.{Source}
+use Rattle.timetable.specs.Steps.{MoveReady}
 use Rattle.timetable.proofs.Tightness.{node-mode, move-room, move-sum, none_first, none-next, move-found, move-none}
-use Rattle.timetable.proofs.walk.tight_move.Goals.{After-next_move-e, In-loop-e}
+use Rattle.timetable.proofs.walk.tight_move.Goals.{After-next_move-e}
 use Rattle.timetable.proofs.walk.tight_move.Goals as goal
 
-here : (c : In-loop-e) → OpenMove c.args.table.now c.args.rules.now c.halves-halves.result c.args.from.at.mode c.loop-e.e
-here c = c.loop-e.invariant.0
+-- The mode in hand is there.
+mode-there :
+    {t rs ws : List ℕ} {s : States} {x : Source} {first : ℕ} → MoveReady t rs s x first ws → x.at.mode < length (automaton_of t).modes
+mode-there p = omega (arith, node-mode p.at-node, p.waited.stands.mode-is)
 
 pub halves-halves-requires : goal.halves-halves-requires
 halves-halves-requires c i = omega (arith, c.requires.waited.room i)
 
 pub move_from-e-requires : goal.move_from-e-requires
 move_from-e-requires c =
-    let mode-there : c.args.from.at.mode < length (automaton_of c.args.table.now).modes = let p = c.requires in omega (arith, node-mode p.at-node, p.waited.stands.mode-is) in
     let z = c.requires.at-node.setting in
-    (c.args.table.now, (z.is-table, z.is-rules, mode-there, omega (arith, c.requires.few)))
+    (c.args.table.now, (z.is-table, z.is-rules, mode-there c.requires, omega (arith, c.requires.few)))
 
 pub loop-e-init : goal.loop-e-init
 loop-e-init c =
-    let mode-there : c.args.from.at.mode < length (automaton_of c.args.table.now).modes = let p = c.requires in omega (arith, node-mode p.at-node, p.waited.stands.mode-is) in
     let z = c.requires.at-node.setting in
-    let f = c.move_from-e.ensures c.args.table.now (z.is-table, z.is-rules, mode-there, omega (arith, c.requires.few)) in
+    let f = c.move_from-e.ensures c.args.table.now (z.is-table, z.is-rules, mode-there c.requires, omega (arith, c.requires.few)) in
     (f.move, none_first c.halves-halves.ensures f)
 
 pub lead-node-requires : goal.lead-node-requires
@@ -36,31 +40,31 @@ lead-node-requires c =
     record {
       is-table = p.at-node.setting.is-table;
       is-states = p.at-node.setting.is-states;
-      there = (here c).there c.loop-e-test.true;
+      there = c.loop-e.invariant.0.there c.loop-e-test.true;
       shown = (_, p.waited.stands.shows);
     }
 
 pub price-requires : goal.price-requires
-price-requires c = (c.requires.at-node.setting.is-table, (here (goal.at.price-requires c).In-loop-e).there c.loop-e-test.true)
+price-requires c = (c.requires.at-node.setting.is-table, c.loop-e.invariant.0.there c.loop-e-test.true)
 
 pub overflow_cast-charge : goal.overflow_cast-charge
 overflow_cast-charge c =
-    let there = (here (goal.at.overflow_cast-charge c).In-loop-e).there c.loop-e-test.true in
+    let there = c.loop-e.invariant.0.there c.loop-e-test.true in
     omega (arith, c.price.ensures, price-within c.args.table.now c.requires.at-node.setting.is-table c.loop-e.e there)
 
 pub overflow_add-charge : goal.overflow_add-charge
 overflow_add-charge c =
     let p = c.requires in
-    omega (arith, move-sum c.halves-halves.ensures p.at-node p.waited c.loop-e-test.true (here (goal.at.overflow_add-charge c).In-loop-e) c.price.ensures)
+    omega (arith, move-sum c.halves-halves.ensures p.at-node p.waited c.loop-e-test.true c.loop-e.invariant.0 c.price.ensures)
 
 pub reached_at-requires : goal.reached_at-requires
 reached_at-requires c =
     let p = c.requires in
-    move-room c.halves-halves.ensures p.at-node p.waited c.loop-e-test.true (here (goal.at.reached_at-requires c).In-loop-e) c.lead-node.ensures
+    move-room c.halves-halves.ensures p.at-node p.waited c.loop-e-test.true c.loop-e.invariant.0 c.lead-node.ensures
 
 pub returns-then-reached_at : goal.returns-then-reached_at
 returns-then-reached_at c =
-    move-found c.halves-halves.ensures c.loop-e.invariant.1 c.loop-e-test.true (here (goal.at.returns-then-reached_at c).In-loop-e) c.lead-node.ensures
+    move-found c.halves-halves.ensures c.loop-e.invariant.1 c.loop-e-test.true c.loop-e.invariant.0 c.lead-node.ensures
     c.price.ensures c.reached_at.ensures c.if-reached_at.true
 
 pub after-requires : goal.after-requires
@@ -69,7 +73,7 @@ after-requires c =
 
 pub next_move-e-requires : goal.next_move-e-requires
 next_move-e-requires c =
-    (_, next-ready c.requires.at-node.setting.is-rules ((here (goal.at.next_move-e-requires c).In-loop-e).there c.loop-e-test.true) c.after.ensures)
+    (_, next-ready c.requires.at-node.setting.is-rules (c.loop-e.invariant.0.there c.loop-e-test.true) c.after.ensures)
 
 next :
     (c : After-next_move-e)
@@ -87,7 +91,7 @@ loop-e-smaller c = omega (arith, (next c).low)
 pub loop-e-preserved : goal.loop-e-preserved
 loop-e-preserved c = (
   (next c).move,
-  none-next c.halves-halves.ensures c.loop-e.invariant.1 c.loop-e-test.true (here (goal.at.loop-e-preserved c).In-loop-e) c.lead-node.ensures
+  none-next c.halves-halves.ensures c.loop-e.invariant.1 c.loop-e-test.true c.loop-e.invariant.0 c.lead-node.ensures
       c.price.ensures c.reached_at.ensures c.if-reached_at.false (next c),
 )
 

@@ -51,17 +51,20 @@ loop-states-preserved-then-next-lt-NO_PAIR c = λ w.
 pub backtrack-stand-requires : goal.backtrack-stand-requires
 backtrack-stand-requires c =
     let w = c.requires in
-    backtrack-ready w (c.loop-states.invariant w) c.next_pair-next.result c.next_pair-next.ensures c.if-next-lt-NO_PAIR.false (far (goal.at.backtrack-stand-requires c).In-loop-states)
+    backtrack-ready w (c.loop-states.invariant w) c.next_pair-next.result c.next_pair-next.ensures c.if-next-lt-NO_PAIR.false
+    (far (goal.at.backtrack-stand-requires c).In-loop-states)
 
 pub loop-states-smaller : goal.loop-states-smaller
 loop-states-smaller c =
     let w = c.requires in
-    fewer-backtrack w (c.loop-states.invariant w) c.next_pair-next.result c.next_pair-next.ensures c.if-next-lt-NO_PAIR.false (far (goal.at.loop-states-smaller c).In-loop-states)
+    fewer-backtrack w (c.loop-states.invariant w) c.next_pair-next.result c.next_pair-next.ensures c.if-next-lt-NO_PAIR.false
+    (far (goal.at.loop-states-smaller c).In-loop-states)
     c.backtrack-stand.new.words c.backtrack-stand.result c.backtrack-stand.ensures
 
 pub loop-states-preserved : goal.loop-states-preserved
 loop-states-preserved c = λ w.
-    walking-backtracks w (c.loop-states.invariant w) c.next_pair-next.result c.next_pair-next.ensures c.if-next-lt-NO_PAIR.false (far (goal.at.loop-states-preserved c).In-loop-states)
+    walking-backtracks w (c.loop-states.invariant w) c.next_pair-next.result c.next_pair-next.ensures c.if-next-lt-NO_PAIR.false
+    (far (goal.at.loop-states-preserved c).In-loop-states)
     c.backtrack-stand.new.words c.backtrack-stand.result c.backtrack-stand.ensures
 
 pub shape_of-words : goal.shape_of-words

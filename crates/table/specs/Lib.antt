@@ -2,4 +2,5 @@
 pub mod Fields
 pub mod Meaning
 pub mod Held
+pub mod Refusals
 pub mod Theorems

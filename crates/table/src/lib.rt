@@ -6,11 +6,13 @@ ghost use Rattle.semantics.specs.Automaton.{timers, mode_at, move_at};
 ghost use Rattle.table.specs.Fields.{most_timers};
 ghost use Rattle.table.specs.Held.{pad, fields_of, automaton_of, move_fields_at, IsTable};
 
+pub mod refusals;
+
 // "timers n, 1 to 3".
 pub const MOST_TIMERS: usize = 3;
 
-// The bytes of a table.
-pub const TABLE: usize = 904;
+// How many bytes hold a table.
+pub const SIZE: usize = 904;
 
 // The counts, the goal and the ceilings, 0 behind the last one.
 pub const MODES: usize = 0;
@@ -47,88 +49,96 @@ pub const GUARD: usize = 4;
 
 pub const RESETS: usize = 10;
 
-// The number of modes.
-pub fn modes(table: &[u8; TABLE]) -> usize
-    requires { IsTable table.now }
-    ensures { result ≡ length (automaton_of table.now).modes }
-{
-    table[MODES] as usize
+// The bytes of a table that was read.
+#[derive(Drop)]
+pub struct Table {
+    pub bytes: [u8; SIZE],
+    pub ghost is_table: { IsTable bytes },
 }
 
-// The number of timers.
-pub fn timers(table: &[u8; TABLE]) -> usize
-    requires { IsTable table.now }
-    ensures { result ≡ timers (automaton_of table.now) }
-{
-    table[TIMERS] as usize
-}
+impl Table {
+    // The number of modes.
+    pub fn modes(&self) -> usize
+        ensures { result ≡ length (automaton_of self.now.bytes).modes }
+    {
+        self.bytes[MODES] as usize
+    }
 
-// The number of moves.
-pub fn moves(table: &[u8; TABLE]) -> usize
-    requires { IsTable table.now }
-    ensures { result ≡ length (automaton_of table.now).moves }
-{
-    table[MOVES] as usize
-}
+    // The number of timers.
+    pub fn timers(&self) -> usize
+        ensures { result ≡ timers (automaton_of self.now.bytes) }
+    {
+        self.bytes[TIMERS] as usize
+    }
 
-// The goal.
-pub fn goal(table: &[u8; TABLE]) -> usize
-    requires { IsTable table.now }
-    ensures { result ≡ (automaton_of table.now).goal }
-{
-    table[GOAL] as usize
-}
+    // The number of moves.
+    pub fn moves(&self) -> usize
+        ensures { result ≡ length (automaton_of self.now.bytes).moves }
+    {
+        self.bytes[MOVES] as usize
+    }
 
-// All ceilings, 0 behind the last one.
-pub fn ceilings(table: &[u8; TABLE]) -> [u8; MOST_TIMERS]
-    requires { IsTable table.now }
-    ensures { result ≡ pad most_timers (automaton_of table.now).ceilings }
-{
-    [table[CEILINGS], table[CEILINGS + 1], table[CEILINGS + 2]]
-}
+    // The goal.
+    pub fn goal(&self) -> usize
+        ensures { result ≡ (automaton_of self.now.bytes).goal }
+    {
+        self.bytes[GOAL] as usize
+    }
 
-// What a minute in a mode is charged.
-pub fn rate(table: &[u8; TABLE], mode: usize) -> u16
-    requires { IsTable table.now × (mode < length (automaton_of table.now).modes) }
-    ensures { result ≡ (mode_at (automaton_of table.now) mode).rate }
-{
-    amount(table, MODE_RECORDS + MODE_STRIDE * mode)
-}
+    // All ceilings, 0 behind the last one.
+    pub fn ceilings(&self) -> [u8; MOST_TIMERS]
+        ensures { result ≡ pad most_timers (automaton_of self.now.bytes).ceilings }
+    {
+        [
+            self.bytes[CEILINGS],
+            self.bytes[CEILINGS + 1],
+            self.bytes[CEILINGS + 2],
+        ]
+    }
 
-// The from mode of a move.
-pub fn source(table: &[u8; TABLE], e: usize) -> usize
-    requires { IsTable table.now × (e < length (automaton_of table.now).moves) }
-    ensures { result ≡ (move_at (automaton_of table.now) e).source }
-{
-    table[MOVE_RECORDS + MOVE_STRIDE * e] as usize
-}
+    // What a minute in a mode is charged.
+    pub fn rate(&self, mode: usize) -> u16
+        requires { mode < length (automaton_of self.now.bytes).modes }
+        ensures { result ≡ (mode_at (automaton_of self.now.bytes) mode).rate }
+    {
+        amount(&self.bytes, MODE_RECORDS + MODE_STRIDE * mode)
+    }
 
-// The to mode of a move.
-pub fn target(table: &[u8; TABLE], e: usize) -> usize
-    requires { IsTable table.now × (e < length (automaton_of table.now).moves) }
-    ensures { result ≡ (move_at (automaton_of table.now) e).target }
-{
-    table[MOVE_RECORDS + MOVE_STRIDE * e + TARGET] as usize
-}
+    // The from mode of a move.
+    pub fn source(&self, e: usize) -> usize
+        requires { e < length (automaton_of self.now.bytes).moves }
+        ensures { result ≡ (move_at (automaton_of self.now.bytes) e).source }
+    {
+        self.bytes[MOVE_RECORDS + MOVE_STRIDE * e] as usize
+    }
 
-// What a move is charged.
-pub fn price(table: &[u8; TABLE], e: usize) -> u16
-    requires { IsTable table.now × (e < length (automaton_of table.now).moves) }
-    ensures { result ≡ (move_at (automaton_of table.now) e).price }
-{
-    amount(table, MOVE_RECORDS + MOVE_STRIDE * e + PRICE)
-}
+    // The to mode of a move.
+    pub fn target(&self, e: usize) -> usize
+        requires { e < length (automaton_of self.now.bytes).moves }
+        ensures { result ≡ (move_at (automaton_of self.now.bytes) e).target }
+    {
+        self.bytes[MOVE_RECORDS + MOVE_STRIDE * e + TARGET] as usize
+    }
 
-// The byte whose bits name the timers that a move resets.
-pub fn resets(table: &[u8; TABLE], e: usize) -> u8
-    requires { IsTable table.now × (e < length (automaton_of table.now).moves) }
-    ensures { result ≡ (move_fields_at (fields_of table.now) e).resets }
-{
-    table[MOVE_RECORDS + MOVE_STRIDE * e + RESETS]
+    // What a move is charged.
+    pub fn price(&self, e: usize) -> u16
+        requires { e < length (automaton_of self.now.bytes).moves }
+        ensures { result ≡ (move_at (automaton_of self.now.bytes) e).price }
+    {
+        amount(&self.bytes, MOVE_RECORDS + MOVE_STRIDE * e + PRICE)
+    }
+
+    // The byte whose bits name the timers that a move resets.
+    pub fn resets(&self, e: usize) -> u8
+        requires { e < length (automaton_of self.now.bytes).moves }
+        ensures { result ≡ (move_fields_at (fields_of self.now.bytes) e).resets }
+    {
+        self.bytes[MOVE_RECORDS + MOVE_STRIDE * e + RESETS]
+    }
 }
 
 // Two bytes as a number, the low one first.
-fn amount(table: &[u8; TABLE], at: usize) -> u16
+fn amount(table: &[u8; SIZE], at: usize) -> u16
     requires { (at + 1 < 904) × (get_or table.now at 0 + 256 * get_or table.now (at + 1) 0 < 65536) }
     ensures { result ≡ get_or table.now at 0 + 256 * get_or table.now (at + 1) 0 }
 {

@@ -7,12 +7,11 @@ use crate::tokens::{LETTER, TOKENS};
 use crate::{places, print, scripts, searches};
 use regions::{Region, nodes};
 use search::Searched;
-use table::TABLE;
+use table::Table;
 
 const WORDS: usize = 6000;
 
-pub fn chain(rt: &impl Print, table: &[u8; TABLE], numbers: &[usize; TOKENS])
-    requires { IsTable table.now }
+pub fn chain(rt: &impl Print, table: &Table, numbers: &[usize; TOKENS])
 {
     let mut words = [0u32; WORDS];
     let answer = searches::searched(table, &mut words);
@@ -23,8 +22,7 @@ pub fn chain(rt: &impl Print, table: &[u8; TABLE], numbers: &[usize; TOKENS])
 }
 
 // The start and the places after the steps, as far as the steps are allowed.
-fn follow(rt: &impl Print, table: &[u8; TABLE], words: &[u32; WORDS], numbers: &[usize; TOKENS])
-    requires { IsTable table.now }
+fn follow(rt: &impl Print, table: &Table, words: &[u32; WORDS], numbers: &[usize; TOKENS])
 {
     let mut place = places::start(rt, table);
     for i in 1..TOKENS {
@@ -38,8 +36,8 @@ fn follow(rt: &impl Print, table: &[u8; TABLE], words: &[u32; WORDS], numbers: &
 }
 
 // The place, and whether it stands by the words after so many steps.
-fn show(rt: &impl Print, table: &[u8; TABLE], words: &[u32; WORDS], place: Place, steps: u32)
-    requires { OnChain table.now 0 place.mode place.region }
+fn show(rt: &impl Print, table: &Table, words: &[u32; WORDS], place: Place, steps: u32)
+    requires { OnChain table.now.bytes 0 place.mode place.region }
 {
     let mode = place.mode;
     let region = place.region;
@@ -47,7 +45,7 @@ fn show(rt: &impl Print, table: &[u8; TABLE], words: &[u32; WORDS], place: Place
         print::text(rt, b": not allowed\n");
         return;
     }
-    let node = nodes::node_of(mode, region, 0, table::ceilings(table));
+    let node = nodes::node_of(mode, region, 0, table.ceilings());
     if stands(words, node, region, steps) {
         print::with(rt, b", stands in mode A", mode);
     } else {

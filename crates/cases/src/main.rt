@@ -22,7 +22,7 @@ use crate::tokens::TOKENS;
 use reader::Verdict;
 use std::io;
 use std::io::Read;
-use table::TABLE;
+use table::Table;
 
 // Of a script the first 65,536 bytes are run.
 fn main(rt: HostRuntime) -> io::Result<()> {
@@ -98,7 +98,7 @@ fn called(rt: &impl Print, name: usize, line: &[u8], numbers: &[usize; TOKENS], 
 
 // The calls that take a table, if the reader accepts its bytes.
 fn of_table(rt: &impl Print, numbers: &[usize; TOKENS], bytes: &[u8]) {
-    let mut table = [0u8; TABLE];
+    let mut table = [0u8; Table];
     let verdict = reader::read(bytes, &mut table);
     match verdict {
         Verdict::Refused(n) => print::refused(rt, n),
@@ -106,8 +106,7 @@ fn of_table(rt: &impl Print, numbers: &[usize; TOKENS], bytes: &[u8]) {
     }
 }
 
-fn of_accepted(rt: &impl Print, numbers: &[usize; TOKENS], table: &[u8; TABLE])
-    requires { IsTable table.now }
+fn of_accepted(rt: &impl Print, numbers: &[usize; TOKENS], table: &Table)
 {
     match numbers[0] {
         READ => readings::read(rt, table),

@@ -7,7 +7,7 @@ ghost use Rattle.cases.specs.Kept.{OnChain, Leads};
 use crate::{operations, print};
 use regions::Region;
 use rules::{GUARDS, RULES};
-use table::TABLE;
+use table::Table;
 
 // A mode and a priced region; and whether the step to it is allowed.
 #[derive(Clone, Copy)]
@@ -18,27 +18,26 @@ pub struct Place {
 }
 
 // "A chain begins in mode 0 with the start region".
-pub fn start(rt: &impl Print, table: &[u8; TABLE]) -> Place
-    requires { IsTable table.now }
-    ensures { OnChain table.now 1024 result.mode result.region }
+pub fn start(rt: &impl Print, table: &Table) -> Place
+    ensures { OnChain table.now.bytes 1024 result.mode result.region }
 {
     print::text(rt, b"start");
     Place {
         allowed: true,
         mode: 0,
-        region: Region::start(table::timers(table)),
+        region: Region::start(table.timers()),
     }
 }
 
 // Prints a step, and makes it. "A step is one byte: 0 to 63 the move of that number, 64 delay, 65 linger."
-pub fn step(rt: &impl Print, table: &[u8; TABLE], place: Place, byte: usize) -> Place
-    requires { OnChain table.now 1 place.mode place.region }
-    ensures { Leads table.now place.mode place.region result.mode result.region }
+pub fn step(rt: &impl Print, table: &Table, place: Place, byte: usize) -> Place
+    requires { OnChain table.now.bytes 1 place.mode place.region }
+    ensures { Leads table.now.bytes place.mode place.region result.mode result.region }
 {
     let mode = place.mode;
     let region = place.region;
     print::with(rt, b"step A", byte);
-    if byte < table::moves(table) {
+    if byte < table.moves() {
         moved(table, mode, region, byte)
     } else {
         waited(table, mode, region, byte)
@@ -46,27 +45,27 @@ pub fn step(rt: &impl Print, table: &[u8; TABLE], place: Place, byte: usize) -> 
 }
 
 // "A move's step tests its conditions, resets, charges, and tests the target's conditions."
-fn moved(table: &[u8; TABLE], mode: usize, region: Region, e: usize) -> Place
-    requires { OnChain table.now 1 mode region × (e < length (automaton_of table.now).moves) }
-    ensures { Leads table.now mode region result.mode result.region }
+fn moved(table: &Table, mode: usize, region: Region, e: usize) -> Place
+    requires { OnChain table.now.bytes 1 mode region × (e < length (automaton_of table.now.bytes).moves) }
+    ensures { Leads table.now.bytes mode region result.mode result.region }
 {
     let open = fits(table, region, GUARDS + e);
-    let cleared = operations::operated(region, b'a', table::resets(table, e) as u16);
-    let charged = operations::operated(cleared, b'c', table::price(table, e));
+    let cleared = operations::operated(region, b'a', table.resets(e) as u16);
+    let charged = operations::operated(cleared, b'c', table.price(e));
     Place {
-        allowed: open & (table::source(table, e) == mode),
-        mode: table::target(table, e),
+        allowed: open & (table.source(e) == mode),
+        mode: table.target(e),
         region: charged,
     }
 }
 
 // Delay, "allowed if the new region meets the mode's conditions and every ceiling", or linger, which "is always allowed". Any other step is not.
-fn waited(table: &[u8; TABLE], mode: usize, region: Region, byte: usize) -> Place
-    requires { OnChain table.now 1 mode region }
-    ensures { Leads table.now mode region result.mode result.region }
+fn waited(table: &Table, mode: usize, region: Region, byte: usize) -> Place
+    requires { OnChain table.now.bytes 1 mode region }
+    ensures { Leads table.now.bytes mode region result.mode result.region }
 {
     let operation = [b'd', b'l'];
-    let later = operations::operated(region, operation[byte % 2], table::rate(table, mode));
+    let later = operations::operated(region, operation[byte % 2], table.rate(mode));
     Place {
         allowed: (byte == 65) | ((byte == 64) & fits(table, later, mode)),
         mode,
@@ -75,10 +74,10 @@ fn waited(table: &[u8; TABLE], mode: usize, region: Region, byte: usize) -> Plac
 }
 
 // Whether a region is within the ceilings, and within a row of the rules: that of a mode has its conditions, and that of a move those of its step.
-fn fits(table: &[u8; TABLE], region: Region, row: usize) -> bool
-    requires { IsTable table.now × Valid region × (row < 80) }
+fn fits(table: &Table, region: Region, row: usize) -> bool
+    requires { Valid region × (row < 80) }
 {
-    if region.within(table::ceilings(table)) {
+    if region.within(table.ceilings()) {
         let mut rules = [0u8; RULES];
         rules::make(table, &mut rules);
         return rules::all_inside(&rules, row, region.halves());

@@ -4,16 +4,15 @@ ghost use Rattle.table.specs.Held.{IsTable};
 use crate::print;
 use regions::nodes;
 use regions::nodes::Nodes;
-use table::TABLE;
+use table::Table;
 
-pub fn read(rt: &impl Print, table: &[u8; TABLE])
-    requires { IsTable table.now }
+pub fn read(rt: &impl Print, table: &Table)
 {
     let counts = [
-        table::modes(table),
-        table::timers(table),
-        table::moves(table),
-        table::goal(table),
+        table.modes(),
+        table.timers(),
+        table.moves(),
+        table.goal(),
     ];
     print::filled(rt, b"modes A timers B moves C goal D", counts);
     count(rt, nodes::node_count(table));

@@ -5,21 +5,19 @@ use crate::print;
 use crate::tokens::{LETTER, TOKENS};
 use rules::RULES;
 use search::Searched;
-use table::TABLE;
+use table::Table;
 
 const MOST_WORDS: usize = 6000;
 
 // One word more than there are counts from 0 again.
-pub fn search(rt: &impl Print, table: &[u8; TABLE], numbers: &[usize; TOKENS])
-    requires { IsTable table.now }
+pub fn search(rt: &impl Print, table: &Table, numbers: &[usize; TOKENS])
 {
     let mut words = [7u32; MOST_WORDS];
     let n = numbers[1] % LETTER % 6001;
     shown(rt, table, &mut words[..n]);
 }
 
-fn shown(rt: &impl Print, table: &[u8; TABLE], words: &mut [u32])
-    requires { IsTable table.now }
+fn shown(rt: &impl Print, table: &Table, words: &mut [u32])
 {
     answered(rt, searched(table, words));
     list(rt, words);
@@ -29,12 +27,11 @@ fn shown(rt: &impl Print, table: &[u8; TABLE], words: &mut [u32])
 }
 
 // The search for the table's own goal.
-pub fn searched(table: &[u8; TABLE], words: &mut [u32]) -> Searched
-    requires { IsTable table.now }
+pub fn searched(table: &Table, words: &mut [u32]) -> Searched
 {
     let mut rules = [0u8; RULES];
     rules::make(table, &mut rules);
-    search::search(words, table, &rules, table::goal(table))
+    search::search(words, table, &rules, table.goal())
 }
 
 // The answer, and what the words are listed behind.

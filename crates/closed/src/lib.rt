@@ -7,26 +7,25 @@ ghost use Rattle.table.specs.Meaning.{conditions_from};
 ghost use Rattle.table.specs.Held.{automaton_of, IsTable};
 ghost use Rattle.closed.specs.Closed.{rows_closed};
 
-use table::{GUARD, INVARIANT, MODE_RECORDS, MODE_STRIDE, MOVE_RECORDS, MOVE_STRIDE, TABLE};
+use table::{GUARD, INVARIANT, MODE_RECORDS, MODE_STRIDE, MOVE_RECORDS, MOVE_STRIDE, SIZE, Table};
 
 // The condition bytes of a record.
 const ROW: usize = 6;
 
 // Whether a table is closed: document 02, N5, "12 for a table with < or >".
-pub fn is_closed(table: &[u8; TABLE]) -> bool
-    requires { IsTable table.now }
-    ensures { result ≡ closed_table (automaton_of table.now) }
+pub fn is_closed(table: &Table) -> bool
+    ensures { result ≡ closed_table (automaton_of table.now.bytes) }
 {
-    let modes = table::modes(table);
-    if !rows_closed(table, MODE_RECORDS + INVARIANT, MODE_STRIDE, modes) {
+    let modes = table.modes();
+    if !rows_closed(&table.bytes, MODE_RECORDS + INVARIANT, MODE_STRIDE, modes) {
         return false;
     }
-    let moves = table::moves(table);
-    rows_closed(table, MOVE_RECORDS + GUARD, MOVE_STRIDE, moves)
+    let moves = table.moves();
+    rows_closed(&table.bytes, MOVE_RECORDS + GUARD, MOVE_STRIDE, moves)
 }
 
 // Whether the conditions of so many records, of so many bytes each, are closed. Those of the first one stand from `first` on.
-fn rows_closed(table: &[u8; TABLE], first: usize, stride: usize, count: usize) -> bool
+fn rows_closed(table: &[u8; SIZE], first: usize, stride: usize, count: usize) -> bool
     requires { (length table.now ≡ 904) × (stride ≤ 12) × (count ≤ 64) × ((k : ℕ) → k < count → first + stride * k + 6 ≤ 904) }
     ensures { result ≡ rows_closed stride count (drop first table.now) }
 {
@@ -41,7 +40,7 @@ fn rows_closed(table: &[u8; TABLE], first: usize, stride: usize, count: usize) -
 }
 
 // Whether the six conditions from `first` on are.
-fn row_closed(table: &[u8; TABLE], first: usize) -> bool
+fn row_closed(table: &[u8; SIZE], first: usize) -> bool
     requires { (length table.now ≡ 904) × (first + 6 ≤ 904) }
     ensures { result ≡ all_closed (conditions_from 0 (take 6 (drop first table.now))) }
 {

@@ -8,7 +8,7 @@ ghost use Rattle.form.specs.Filled.{outcome, filled};
 mod records;
 
 use reader::{CONDITIONS, Verdict};
-use table::TABLE;
+use table::SIZE;
 
 // The bytes of a form. It begins as a table does: the counts, the goal and the ceilings stand at the same offsets.
 pub const FORM: usize = 1384;
@@ -34,7 +34,7 @@ pub const MOVE_RESETS: usize = 16;
 pub fn fill(bytes: &[u8], form: &mut [u8; FORM]) -> Verdict
     ensures { outcome result form.new ≡ filled bytes.now form.old }
 {
-    let mut table = [0u8; TABLE];
+    let mut table = [0u8; SIZE];
     let verdict = reader::read(bytes, &mut table);
     match verdict {
         Verdict::Refused(n) => Verdict::Refused(n),

@@ -9,7 +9,7 @@ use crate::{
 };
 use reader::CONDITIONS;
 use table::{
-    GUARD, INVARIANT, MODE_RECORDS, MODE_STRIDE, MOVE_RECORDS, MOVE_STRIDE, RESETS, TABLE,
+    GUARD, INVARIANT, MODE_RECORDS, MODE_STRIDE, MOVE_RECORDS, MOVE_STRIDE, RESETS, SIZE,
 };
 
 // All records that a table has room for: those behind the last one are 0 in both.
@@ -18,7 +18,7 @@ const MODES: usize = 16;
 const MOVES: usize = 64;
 
 // So many bytes, as they stand in the table.
-fn copied(table: &[u8; TABLE], from: usize, form: &mut [u8; FORM], at: usize, n: usize)
+fn copied(table: &[u8; SIZE], from: usize, form: &mut [u8; FORM], at: usize, n: usize)
     requires { (from + n ≤ 904) × (at + n ≤ 1384) × Whole table.now form.old }
     ensures { Appends form.old at (take n (drop from table.now)) form.new (at + n) }
 {
@@ -37,7 +37,7 @@ fn place(c: u8, form: &mut [u8; FORM], at: usize)
 }
 
 // The six places of a record.
-fn places(table: &[u8; TABLE], from: usize, form: &mut [u8; FORM], at: usize)
+fn places(table: &[u8; SIZE], from: usize, form: &mut [u8; FORM], at: usize)
     requires { (from + 6 ≤ 904) × (at + 12 ≤ 1384) × Whole table.now form.old }
     ensures { Appends form.old at (places (take 6 (drop from table.now))) form.new (at + 12) }
 {
@@ -47,7 +47,7 @@ fn places(table: &[u8; TABLE], from: usize, form: &mut [u8; FORM], at: usize)
 }
 
 // A mode: its rate, and its conditions.
-fn mode_form(table: &[u8; TABLE], from: usize, form: &mut [u8; FORM], at: usize)
+fn mode_form(table: &[u8; SIZE], from: usize, form: &mut [u8; FORM], at: usize)
     requires { (from + 8 ≤ 904) × (at + 14 ≤ 1384) × Whole table.now form.old }
     ensures { Appends form.old at (mode_widened (drop from table.now)) form.new (at + 14) }
 {
@@ -56,7 +56,7 @@ fn mode_form(table: &[u8; TABLE], from: usize, form: &mut [u8; FORM], at: usize)
 }
 
 // A move: its modes and its price, its conditions, and the byte of its resets with the 0 behind it.
-fn move_form(table: &[u8; TABLE], from: usize, form: &mut [u8; FORM], at: usize)
+fn move_form(table: &[u8; SIZE], from: usize, form: &mut [u8; FORM], at: usize)
     requires { (from + 12 ≤ 904) × (at + 18 ≤ 1384) × Whole table.now form.old }
     ensures { Appends form.old at (move_widened (drop from table.now)) form.new (at + 18) }
 {
@@ -72,7 +72,7 @@ fn move_form(table: &[u8; TABLE], from: usize, form: &mut [u8; FORM], at: usize)
 }
 
 // The modes. The unit's core multiplies in 32 bits.
-fn mode_forms(table: &[u8; TABLE], form: &mut [u8; FORM])
+fn mode_forms(table: &[u8; SIZE], form: &mut [u8; FORM])
     requires { Whole table.now form.old }
     ensures { Appends form.old 8 (flat (records_from mode_widened 8 16 (drop 8 table.now))) form.new 232 }
 {
@@ -88,7 +88,7 @@ fn mode_forms(table: &[u8; TABLE], form: &mut [u8; FORM])
 }
 
 // The moves.
-fn move_forms(table: &[u8; TABLE], form: &mut [u8; FORM])
+fn move_forms(table: &[u8; SIZE], form: &mut [u8; FORM])
     requires { Whole table.now form.old }
     ensures { Appends form.old 232 (flat (records_from move_widened 12 64 (drop 136 table.now))) form.new 1384 }
 {
@@ -104,7 +104,7 @@ fn move_forms(table: &[u8; TABLE], form: &mut [u8; FORM])
 }
 
 // A form that says what the table says.
-pub fn fill_from(table: &[u8; TABLE], form: &mut [u8; FORM])
+pub fn fill_from(table: &[u8; SIZE], form: &mut [u8; FORM])
     requires { IsTable table.now × (length form.old ≡ 1384) }
     ensures { form.new ≡ formed (fields_of table.now) }
 {

@@ -6,19 +6,19 @@ use crate::waits::Source;
 use rules::RULES;
 use space::moves;
 use states::States;
-use table::TABLE;
+use table::Table;
 
 // Relaxes the pairs of a state. No wait goes beyond the ceiling of timer 0. A cost of as many pairs as there are states is not offered: no least cost has
 // so many.
 pub fn relax_pairs(
     words: &mut [u32],
     states: States,
-    table: &[u8; TABLE],
+    table: &Table,
     rules: &[u8; RULES],
     from: Source,
 )
-    requires { PairsReady table.now rules.now states from words.old }
-    ensures { PairsDone AnyPair table.now states from words.old words.new }
+    requires { PairsReady table.now.bytes rules.now states from words.old }
+    ensures { PairsDone AnyPair table.now.bytes states from words.old words.new }
 {
     if states.count <= from.pairs as usize {
         return;
@@ -38,13 +38,13 @@ pub fn relax_pairs(
 fn relax_minute(
     words: &mut [u32],
     states: States,
-    table: &[u8; TABLE],
+    table: &Table,
     rules: &[u8; RULES],
     from: Source,
     minutes: u8,
 )
-    requires { MinuteReady table.now rules.now states from minutes words.old }
-    ensures { PairsDone (OfMinute minutes) table.now states from words.old words.new }
+    requires { MinuteReady table.now.bytes rules.now states from minutes words.old }
+    ensures { PairsDone (OfMinute minutes) table.now.bytes states from words.old words.new }
 {
     let later = waits::wait(states, table, from, minutes);
     if waits::stays(rules, later.at) {
@@ -56,12 +56,12 @@ fn relax_minute(
 fn relax_moves(
     words: &mut [u32],
     states: States,
-    table: &[u8; TABLE],
+    table: &Table,
     rules: &[u8; RULES],
     from: Source,
 )
-    requires { MovesReady table.now rules.now states from words.old }
-    ensures { MovesDone table.now states from words.old words.new }
+    requires { MovesReady table.now.bytes rules.now states from words.old }
+    ensures { MovesDone table.now.bytes states from words.old words.new }
 {
     let at = from.at;
     let values = at.values;
@@ -69,7 +69,7 @@ fn relax_moves(
     let mut e = moves::next_move(rules, halves, rules::first(rules, at.mode));
     while e < rules::NONE {
         let to = states::lead(states, table, values, e);
-        let charge = table::price(table, e) as u32 + from.charge;
+        let charge = table.price(e) as u32 + from.charge;
         queue::relax(words, states.count, to, charge, from.pairs);
         e = moves::next_move(rules, halves, rules::after(rules, e));
     }

@@ -11,7 +11,7 @@ use near::{Cost, INFINITY};
 use rules::RULES;
 use search::words;
 use states::States;
-use table::TABLE;
+use table::Table;
 
 // The start: mode 0 with every timer at 0.
 pub const START: usize = 0;
@@ -21,12 +21,12 @@ pub const START: usize = 0;
 pub fn search(
     words: &mut [u32],
     states: States,
-    table: &[u8; TABLE],
+    table: &Table,
     rules: &[u8; RULES],
     goal: usize,
 ) -> Cost
-    requires { SearchReady table.now rules.now states words.old }
-    ensures { SearchDone table.now states goal words.old words.new result }
+    requires { SearchReady table.now.bytes rules.now states words.old }
+    ensures { SearchDone table.now.bytes states goal words.old words.new result }
 {
     words::seed(words, states.count, START);
     let best = settle_all(words, states, table, rules, goal);
@@ -38,12 +38,12 @@ pub fn search(
 fn settle_all(
     words: &mut [u32],
     states: States,
-    table: &[u8; TABLE],
+    table: &Table,
     rules: &[u8; RULES],
     goal: usize,
 ) -> Cost
-    requires { FindReady table.now rules.now states goal words.old }
-    ensures { FoundGoal table.now states goal words.old words.new result }
+    requires { FindReady table.now.bytes rules.now states goal words.old }
+    ensures { FoundGoal table.now.bytes states goal words.old words.new result }
 {
     let mut node = queue::first(words);
     while node < states.count {

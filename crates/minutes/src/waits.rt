@@ -3,7 +3,7 @@ ghost use Rattle.minutes.specs.Waits.{WaitReady, WaitDone, StaysReady, StaysDone
 
 use rules::RULES;
 use states::{State, States};
-use table::TABLE;
+use table::Table;
 
 // A state, what has been charged there, and the pairs with which its edges arrive.
 #[derive(Clone, Copy)]
@@ -14,13 +14,13 @@ pub struct Source {
 }
 
 // A state some minutes later, and what has been charged then.
-pub fn wait(states: States, table: &[u8; TABLE], from: Source, minutes: u8) -> Source
-    requires { WaitReady table.now states from minutes }
-    ensures { WaitDone table.now from minutes result }
+pub fn wait(states: States, table: &Table, from: Source, minutes: u8) -> Source
+    requires { WaitReady table.now.bytes states from minutes }
+    ensures { WaitDone table.now.bytes from minutes result }
 {
     let at = from.at;
     let values = at.values;
-    let rate = table::rate(table, at.mode) as u32;
+    let rate = table.rate(at.mode) as u32;
     Source {
         at: State {
             mode: at.mode,

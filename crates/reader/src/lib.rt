@@ -6,7 +6,7 @@ ghost use Rattle.reader.specs.Read.{read};
 ghost use Rattle.reader.specs.Reading.{Reading};
 ghost use Rattle.reader.specs.Step.{Judges};
 
-use table::TABLE;
+use table::SIZE;
 
 mod fields;
 mod records;
@@ -41,20 +41,20 @@ pub enum Verdict {
 }
 
 // Reads a table from its bytes, or refuses them and leaves every byte of the table 0.
-pub fn read(bytes: &[u8], table: &mut [u8; TABLE]) -> Verdict
+pub fn read(bytes: &[u8], table: &mut [u8; SIZE]) -> Verdict
     ensures { Reading (read bytes.now) result table.new }
 {
-    *table = [0; TABLE];
+    *table = [0; SIZE];
     let refusal = judged(bytes, table);
     if refusal != 0 {
-        *table = [0; TABLE];
+        *table = [0; SIZE];
         return Verdict::Refused(refusal);
     }
     Verdict::Accepted
 }
 
 // The number of the refusal, or 0 where the table holds what was read: the first fault decides among 1 to 5, then 6, then 7.
-fn judged(bytes: &[u8], table: &mut [u8; TABLE]) -> u8
+fn judged(bytes: &[u8], table: &mut [u8; SIZE]) -> u8
     requires { table.old ≡ replicate 904 0 }
     ensures { Judges bytes.now table.new result }
 {

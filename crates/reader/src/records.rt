@@ -10,7 +10,7 @@ use crate::fields::{Field, amount_byte, bit_map, byte_within, optional, reset_by
 use crate::{BAD_CODE, CONDITIONS, NO_SUCH_MODE, OUT_OF_RANGE};
 use table::{
     CEILINGS, GOAL, HIGH, INVARIANT, MODE_RECORDS, MODE_STRIDE, MODES, MOVE_RECORDS, MOVE_STRIDE,
-    MOVES, PRICE, RESETS, TABLE, TARGET, TIMERS,
+    MOVES, PRICE, RESETS, SIZE, TARGET, TIMERS,
 };
 
 // What the functions give: a refusal's number or 0, and the place of the next byte.
@@ -21,7 +21,7 @@ pub struct Next {
 }
 
 // A byte from least to most that stands in the table where it stands in the bytes: gives a refusal's number or 0.
-fn copied(bytes: &[u8], at: usize, least: u8, most: u8, table: &mut [u8; TABLE]) -> u8
+fn copied(bytes: &[u8], at: usize, least: u8, most: u8, table: &mut [u8; SIZE]) -> u8
     requires { at < 904 }
     ensures { Copies bytes.now least most at result (Copied least most table.old at table.new) }
 {
@@ -31,7 +31,7 @@ fn copied(bytes: &[u8], at: usize, least: u8, most: u8, table: &mut [u8; TABLE])
 }
 
 // The numbers of modes, timers and moves, and the goal.
-fn header(bytes: &[u8], table: &mut [u8; TABLE]) -> u8
+fn header(bytes: &[u8], table: &mut [u8; SIZE]) -> u8
     requires { 4 ≤ length table.old }
     ensures { WritesHeader bytes.now table.old table.new result }
 {
@@ -52,7 +52,7 @@ fn header(bytes: &[u8], table: &mut [u8; TABLE]) -> u8
 }
 
 // The ceilings, one for each timer.
-fn ceilings(bytes: &[u8], timers: u8, table: &mut [u8; TABLE]) -> Next
+fn ceilings(bytes: &[u8], timers: u8, table: &mut [u8; SIZE]) -> Next
     requires { timers ≤ 3 }
     ensures { Reads (in_order (λ i. within 2 1 15) 0 timers) bytes.now 4 result (λ cs. Wrote timers table.old 4 table.new cs) }
 {
@@ -69,7 +69,7 @@ fn ceilings(bytes: &[u8], timers: u8, table: &mut [u8; TABLE]) -> Next
 }
 
 // The six conditions of a record, each where its bit stands.
-fn conditions(bytes: &[u8], from: usize, map: u8, table: &mut [u8; TABLE], at: usize) -> Next
+fn conditions(bytes: &[u8], from: usize, map: u8, table: &mut [u8; SIZE], at: usize) -> Next
     requires { at + 6 ≤ 904 }
     ensures { Reads (conditions map) bytes.now from result (λ cs. Wrote 6 table.old at table.new cs) }
 {
@@ -90,7 +90,7 @@ fn conditions(bytes: &[u8], from: usize, map: u8, table: &mut [u8; TABLE], at: u
 }
 
 // The low byte of a rate or price, 0 in the high byte's place, and the conditions.
-fn priced(bytes: &[u8], from: usize, map: u8, table: &mut [u8; TABLE], at: usize) -> Next
+fn priced(bytes: &[u8], from: usize, map: u8, table: &mut [u8; SIZE], at: usize) -> Next
     requires { at + 8 ≤ 904 }
     ensures { Reads (priced map) bytes.now from result (WrotePriced table.old at table.new) }
 {
@@ -107,7 +107,7 @@ fn priced(bytes: &[u8], from: usize, map: u8, table: &mut [u8; TABLE], at: usize
 }
 
 // The high byte of a rate or price, the last field of its record, where bit 7 of the byte that announces it stands.
-fn high_byte(bytes: &[u8], from: usize, announcing: u8, table: &mut [u8; TABLE], at: usize) -> Next
+fn high_byte(bytes: &[u8], from: usize, announcing: u8, table: &mut [u8; SIZE], at: usize) -> Next
     requires { at < 904 }
     ensures { Reads (amount_byte announcing 7) bytes.now from result (λ b. table.new ≡ set table.old at b) }
 {
@@ -120,7 +120,7 @@ fn high_byte(bytes: &[u8], from: usize, announcing: u8, table: &mut [u8; TABLE],
 }
 
 // A mode record, whose map announces the high byte.
-fn mode_record(bytes: &[u8], from: usize, timers: u8, table: &mut [u8; TABLE], at: usize) -> Next
+fn mode_record(bytes: &[u8], from: usize, timers: u8, table: &mut [u8; SIZE], at: usize) -> Next
     requires { (timers ≤ 3) × (at + 8 ≤ 904) }
     ensures { Reads (mode_record timers) bytes.now from result (λ a. Wrote 8 table.old at table.new (mode_bytes a)) }
 {
@@ -139,7 +139,7 @@ fn mode_record(bytes: &[u8], from: usize, timers: u8, table: &mut [u8; TABLE], a
 }
 
 // The from mode and the to mode of a move.
-fn ends(bytes: &[u8], from: usize, modes: u8, table: &mut [u8; TABLE], at: usize) -> Next
+fn ends(bytes: &[u8], from: usize, modes: u8, table: &mut [u8; SIZE], at: usize) -> Next
     requires { (0 < modes) × (at + 2 ≤ 904) }
     ensures { Reads (ends modes) bytes.now from result (λ a. Wrote 2 table.old at table.new (end_bytes a)) }
 {
@@ -165,7 +165,7 @@ fn resets(
     from: usize,
     map: u8,
     timers: u8,
-    table: &mut [u8; TABLE],
+    table: &mut [u8; SIZE],
     at: usize,
 ) -> Field
     requires { (timers ≤ 3) × (at + 2 ≤ 904) }
@@ -184,7 +184,7 @@ fn move_record(
     from: usize,
     modes: u8,
     timers: u8,
-    table: &mut [u8; TABLE],
+    table: &mut [u8; SIZE],
     at: usize,
 ) -> Next
     requires { (0 < modes) × (timers ≤ 3) × (at + 12 ≤ 904) }
@@ -216,7 +216,7 @@ fn move_record(
 }
 
 // The mode records, one after another. The unit's core multiplies in 32 bits.
-fn mode_records(bytes: &[u8], from: usize, timers: u8, modes: u8, table: &mut [u8; TABLE]) -> Next
+fn mode_records(bytes: &[u8], from: usize, timers: u8, modes: u8, table: &mut [u8; SIZE]) -> Next
     requires { (timers ≤ 3) × (modes ≤ 16) }
     ensures { Reads (in_order (λ i. mode_record timers) 0 modes) bytes.now from result
         (λ ms. Wrote (8 * modes) table.old 8 table.new (flat (map mode_bytes ms))) }
@@ -240,7 +240,7 @@ fn move_records(
     timers: u8,
     modes: u8,
     moves: u8,
-    table: &mut [u8; TABLE],
+    table: &mut [u8; SIZE],
 ) -> Next
     requires { (timers ≤ 3) × (0 < modes) × (moves ≤ 64) }
     ensures { Reads (in_order (λ i. move_record modes timers) 0 moves) bytes.now from result
@@ -259,7 +259,7 @@ fn move_records(
 }
 
 // All parts, into a table of zeros.
-pub fn contents(bytes: &[u8], table: &mut [u8; TABLE]) -> Next
+pub fn contents(bytes: &[u8], table: &mut [u8; SIZE]) -> Next
     requires { table.old ≡ replicate 904 0 }
     ensures { Contains bytes.now table.new result }
 {

@@ -4,7 +4,7 @@ ghost use Rattle.semantics.specs.Condition.{hold_at_zero};
 ghost use Rattle.table.specs.Meaning.{conditions_from};
 
 use crate::CONDITIONS;
-use table::{INVARIANT, MODE_RECORDS, TABLE};
+use table::{INVARIANT, MODE_RECORDS, SIZE};
 
 // Whether a condition byte, or 0 for none, holds of a timer at 0.
 fn holds_at_zero(condition: u8) -> bool
@@ -21,7 +21,7 @@ fn holds_at_zero(condition: u8) -> bool
 }
 
 // Whether the first mode's conditions hold with every timer at 0.
-pub fn start_holds(table: &[u8; TABLE]) -> bool
+pub fn start_holds(table: &[u8; SIZE]) -> bool
     requires { 16 ≤ length table.now }
     ensures { result ≡ hold_at_zero (conditions_from 0 (take 6 (drop 10 table.now))) }
 {

@@ -10,7 +10,7 @@ use crate::Region;
 use corners::cells::{cell_at, cell_number, cells};
 use corners::tables;
 use corners::tables::CornerAt;
-use table::TABLE;
+use table::Table;
 
 // "E may be at most 65,536."
 pub const MOST_NODES: usize = 65536;
@@ -114,12 +114,11 @@ pub fn region_at(timers: usize, ceilings: [u8; Region::MOST_TIMERS], number: usi
 }
 
 // "E = m × the product of all (ceiling + 1) × that number", if it is not above 65,536.
-pub fn node_count(table: &[u8; TABLE]) -> Nodes
-    requires { IsTable table.now }
-    ensures { result ≡ bounded (node_count (automaton_of table.now)) }
+pub fn node_count(table: &Table) -> Nodes
+    ensures { result ≡ bounded (node_count (automaton_of table.now.bytes)) }
 {
-    let modes = table::modes(table) as u32;
-    let count = modes * cells(table::ceilings(table)) * tables::corner_count(table::timers(table));
+    let modes = table.modes() as u32;
+    let count = modes * cells(table.ceilings()) * tables::corner_count(table.timers());
     if count as usize <= MOST_NODES {
         Nodes::Count(count as usize)
     } else {

@@ -14,7 +14,7 @@ use near::INFINITY;
 use reader::Verdict;
 use rules::RULES;
 use search::Searched;
-use table::TABLE;
+use table::Table;
 
 // "10: the route has more steps than route bytes lent".
 const ROUTE_TOO_LONG: u8 = 10;
@@ -40,7 +40,7 @@ pub fn plan(bytes: &[u8], words: &mut [u32], route: &mut [u8]) -> Answer
         ≡ planned bytes.now words.old route.old }
     ensures demand { KeepsDemand bytes.now (length words.old) route.new result }
 {
-    let mut table = [0u8; TABLE];
+    let mut table = [0u8; Table];
     let verdict = reader::read(bytes, &mut table);
     match verdict {
         Verdict::Refused(n) => Answer::Refused(n),
@@ -49,14 +49,13 @@ pub fn plan(bytes: &[u8], words: &mut [u32], route: &mut [u8]) -> Answer
 }
 
 // Plans a table that was read.
-fn plan_table(words: &mut [u32], route: &mut [u8], table: &[u8; TABLE]) -> Answer
-    requires { IsTable table.now }
+fn plan_table(words: &mut [u32], route: &mut [u8], table: &Table) -> Answer
     ensures { outcome result words.new route.new
-        ≡ planned_table (automaton_of table.now) words.old route.old }
+        ≡ planned_table (automaton_of table.now.bytes) words.old route.old }
 {
     let mut rules = [0u8; RULES];
     rules::make(table, &mut rules);
-    let goal = table::goal(table);
+    let goal = table.goal();
     let searched = search::search(words, table, &rules, goal);
     match searched {
         Searched::Refused(n) => Answer::Refused(n),
@@ -73,7 +72,7 @@ pub fn lend(bytes: &[u8]) -> Needs
     ensures needs { result ≡ needed bytes.now }
     ensures promise { Enough bytes.now result }
 {
-    let mut table = [0u8; TABLE];
+    let mut table = [0u8; Table];
     let verdict = reader::read(bytes, &mut table);
     match verdict {
         Verdict::Refused(n) => Needs::Refused(n),
@@ -82,9 +81,8 @@ pub fn lend(bytes: &[u8]) -> Needs
 }
 
 // How much to lend for a table that was read.
-fn memory_of(table: &[u8; TABLE]) -> Needs
-    requires { IsTable table.now }
-    ensures { result ≡ needed_table (automaton_of table.now) }
+fn memory_of(table: &Table) -> Needs
+    ensures { result ≡ needed_table (automaton_of table.now.bytes) }
 {
     let nodes = search::nodes_of(table);
     match nodes {
@@ -97,14 +95,14 @@ fn memory_of(table: &[u8; TABLE]) -> Needs
 fn read_route(
     words: &mut [u32],
     route: &mut [u8],
-    table: &[u8; TABLE],
+    table: &Table,
     rules: &[u8; RULES],
     nodes: usize,
 ) -> Answer
-    requires { Found table.now rules.now nodes words.old }
-    ensures { ReadOff table.now words.old route.old words.new route.new result }
+    requires { Found table.now.bytes rules.now nodes words.old }
+    ensures { ReadOff table.now.bytes words.old route.old words.new route.new result }
 {
-    let cost = near::best(words, nodes, table::goal(table), table::modes(table));
+    let cost = near::best(words, nodes, table.goal(), table.modes());
     let charge = cost.charge;
     let steps = cost.steps as usize;
     if charge == INFINITY {

@@ -6,7 +6,7 @@ use near::INFINITY;
 use rules::RULES;
 use space::Space;
 use steps::{NO_STEP, Next, Stand};
-use table::TABLE;
+use table::Table;
 
 // A second word from here on points back: it holds the first node and the marked corners of the place before. No node has as many steps.
 const BACK: u32 = 0x8000_0000;
@@ -85,13 +85,13 @@ pub fn walk(
     words: &mut [u32],
     route: &mut [u8],
     space: Space,
-    table: &[u8; TABLE],
+    table: &Table,
     rules: &[u8; RULES],
 )
-    requires { WalkReady table.now rules.now space words.old route.old }
-    ensures { WalkDone table.now words.old route.old words.new route.new }
+    requires { WalkReady table.now.bytes rules.now space words.old route.old }
+    ensures { WalkDone table.now.bytes words.old route.old words.new route.new }
 {
-    let goal = table::goal(table);
+    let goal = table.goal();
     let mut stand = Stand {
         first: space::start_node(space),
         set: 1,

@@ -6,7 +6,7 @@ ghost use Rattle.std.specs.Prelude.{◌≡◌, true, ◌&&◌, ◌↔◌, ◌<�
 ghost use Rattle.table.specs.Held.{IsTable};
 ghost use Rattle.rules.specs.Rules.{window_of, low_at, high_at, InRow, first_of, after_of, IsRules};
 
-use table::{MOST_TIMERS, TABLE};
+use table::{MOST_TIMERS, Table};
 
 mod order;
 mod rows;
@@ -27,15 +27,14 @@ pub const RULES: usize = 560;
 pub const NONE: usize = 64;
 
 // Makes the rules of a table.
-pub fn make(table: &[u8; TABLE], rules: &mut [u8; RULES])
-    requires { IsTable table.now }
-    ensures { IsRules table.now rules.new }
+pub fn make(table: &Table, rules: &mut [u8; RULES])
+    ensures { IsRules table.now.bytes rules.new }
 {
-    let modes = table::modes(table);
-    let moves = table::moves(table);
+    let modes = table.modes();
+    let moves = table.moves();
     *rules = [0; RULES];
     rows::fill(
-        table,
+        &table.bytes,
         table::MODE_RECORDS + table::INVARIANT,
         table::MODE_STRIDE,
         modes,
@@ -43,7 +42,7 @@ pub fn make(table: &[u8; TABLE], rules: &mut [u8; RULES])
         0,
     );
     rows::fill(
-        table,
+        &table.bytes,
         table::MOVE_RECORDS + table::GUARD,
         table::MOVE_STRIDE,
         moves,

@@ -5,7 +5,7 @@ ghost use Rattle.rules.specs.Rules.{first_of, none};
 ghost use Rattle.rules.specs.Making.{Wrote, OrderedFrom};
 
 use crate::{AFTER, FIRST, NONE, RULES};
-use table::TABLE;
+use table::Table;
 
 // No move is the first one of a mode.
 pub fn no_moves(rules: &mut [u8; RULES], modes: usize)
@@ -18,15 +18,15 @@ pub fn no_moves(rules: &mut [u8; RULES], modes: usize)
 }
 
 // From the last move on, each is put before those of its mode.
-pub fn order(table: &[u8; TABLE], rules: &mut [u8; RULES])
-    requires { IsTable table.now × (length rules.old ≡ 560)
-        × ((m : ℕ) → m < length (automaton_of table.now).modes → first_of rules.old m ≡ none) }
-    ensures { OrderedFrom (automaton_of table.now) 0 rules.old rules.new }
+pub fn order(table: &Table, rules: &mut [u8; RULES])
+    requires { (length rules.old ≡ 560)
+        × ((m : ℕ) → m < length (automaton_of table.now.bytes).modes → first_of rules.old m ≡ none) }
+    ensures { OrderedFrom (automaton_of table.now.bytes) 0 rules.old rules.new }
 {
-    let mut e = table::moves(table);
+    let mut e = table.moves();
     while 0 < e {
         e -= 1;
-        let mode = table::source(table, e);
+        let mode = table.source(e);
         rules[AFTER + e] = rules[FIRST + mode];
         rules[FIRST + mode] = e as u8;
     }

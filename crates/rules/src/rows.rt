@@ -5,11 +5,11 @@ ghost use Rattle.rules.specs.Making.{condition_bytes, FilledRows, JoinedRow, Joi
 
 use crate::{GUARDS, RULES, window};
 use conditions::windows::{ROW, capped, joined_high, joined_low, windows};
-use table::{MOST_TIMERS, TABLE};
+use table::{MOST_TIMERS, SIZE, Table};
 
 // For each of so many records, of so many bytes each, whose conditions stand from `at` on, the windows: in the rows from `row` on.
 pub fn fill(
-    table: &[u8; TABLE],
+    table: &[u8; SIZE],
     at: usize,
     stride: usize,
     count: usize,
@@ -28,17 +28,17 @@ pub fn fill(
 }
 
 // To the row of each move that of its target is joined, so that one test of the move's row tells whether both let the move pass.
-pub fn join(table: &[u8; TABLE], rules: &mut [u8; RULES])
-    requires { IsTable table.now × (length rules.old ≡ 560) }
-    ensures { JoinedRows (automaton_of table.now) (length (automaton_of table.now).moves) rules.old rules.new }
+pub fn join(table: &Table, rules: &mut [u8; RULES])
+    requires { (length rules.old ≡ 560) }
+    ensures { JoinedRows (automaton_of table.now.bytes) (length (automaton_of table.now.bytes).moves) rules.old rules.new }
 {
-    let moves = table::moves(table);
+    let moves = table.moves();
     for e in 0..moves {
         join_row(
             rules,
             GUARDS + e,
-            table::target(table, e),
-            table::resets(table, e),
+            table.target(e),
+            table.resets(e),
         );
     }
 }
@@ -60,11 +60,11 @@ fn join_row(rules: &mut [u8; RULES], row: usize, target: usize, resets: u8)
 }
 
 // The windows of each mode's row end above the ceilings, so that one test of the row tells whether a delay is allowed.
-pub fn cap(table: &[u8; TABLE], rules: &mut [u8; RULES], modes: usize)
-    requires { IsTable table.now × (length rules.old ≡ 560) × (modes ≤ 16) }
-    ensures { CappedRows (automaton_of table.now).ceilings modes rules.old rules.new }
+pub fn cap(table: &Table, rules: &mut [u8; RULES], modes: usize)
+    requires { (length rules.old ≡ 560) × (modes ≤ 16) }
+    ensures { CappedRows (automaton_of table.now.bytes).ceilings modes rules.old rules.new }
 {
-    let ceilings = table::ceilings(table);
+    let ceilings = table.ceilings();
     for mode in 0..modes {
         cap_row(rules, mode, ceilings);
     }
@@ -82,7 +82,7 @@ fn cap_row(rules: &mut [u8; RULES], row: usize, ceilings: [u8; MOST_TIMERS])
 }
 
 // Six bytes of a table.
-fn conditions(table: &[u8; TABLE], at: usize) -> [u8; ROW]
+fn conditions(table: &[u8; SIZE], at: usize) -> [u8; ROW]
     requires { (length table.now ≡ 904) × (at + 6 ≤ 904) }
     ensures { result ≡ take 6 (drop at table.now) }
 {

@@ -9,7 +9,7 @@ use regions::nodes;
 use regions::nodes::NodeRegion;
 use rules::RULES;
 use space::{Space, moves};
-use table::TABLE;
+use table::Table;
 
 // A node whose edges are relaxed: the corner that it is, its charge, and the steps with which its edges arrive, one more than its own.
 #[derive(Clone, Copy)]
@@ -23,12 +23,12 @@ pub struct Source {
 pub fn relax_edges(
     words: &mut [u32],
     space: Space,
-    table: &[u8; TABLE],
+    table: &Table,
     rules: &[u8; RULES],
     from: Source,
 )
-    requires { EdgesReady table.now rules.now space from words.old }
-    ensures { EdgesDone IsAny table.now space from words.old words.new }
+    requires { EdgesReady table.now.bytes rules.now space from words.old }
+    ensures { EdgesDone IsAny table.now.bytes space from words.old words.new }
 {
     if space.nodes <= from.steps as usize {
         return;
@@ -78,17 +78,17 @@ fn relax_delay(words: &mut [u32], nodes: usize, from: Source, to: usize, empty: 
 fn relax_waits(
     words: &mut [u32],
     space: Space,
-    table: &[u8; TABLE],
+    table: &Table,
     rules: &[u8; RULES],
     from: Source,
 )
-    requires { EdgesReady table.now rules.now space from words.old × Short space from }
-    ensures { EdgesDone IsWait table.now space from words.old words.new }
+    requires { EdgesReady table.now.bytes rules.now space from words.old × Short space from }
+    ensures { EdgesDone IsWait table.now.bytes space from words.old words.new }
 {
     let at = from.at;
     let region = at.region;
     let ceilings = space.ceilings;
-    let rate = table::rate(table, at.mode) as u32;
+    let rate = table.rate(at.mode) as u32;
     let delayed = region.delay(0);
     // Where r0 is empty a delay takes a corner away.
     let empty = delayed.top() < region.top();
@@ -140,12 +140,12 @@ fn image(images: &mut [u32; 8], space: Space, at: NodeRegion, resets: u8) -> usi
 fn relax_moves(
     words: &mut [u32],
     space: Space,
-    table: &[u8; TABLE],
+    table: &Table,
     rules: &[u8; RULES],
     from: Source,
 )
-    requires { EdgesReady table.now rules.now space from words.old × Short space from }
-    ensures { EdgesDone IsMove table.now space from words.old words.new }
+    requires { EdgesReady table.now.bytes rules.now space from words.old × Short space from }
+    ensures { EdgesDone IsMove table.now.bytes space from words.old words.new }
 {
     let at = from.at;
     let region = at.region;
@@ -155,9 +155,9 @@ fn relax_moves(
     let mut images = [moves::NO_IMAGE; 8];
     let mut e = moves::next_move(rules, halves, rules::first(rules, at.mode));
     while e < rules::NONE {
-        let target = table::target(table, e) as u32;
-        let to = image(&mut images, space, at, table::resets(table, e)) + (target * block) as usize;
-        let charge = table::price(table, e) as u32 + from.charge;
+        let target = table.target(e) as u32;
+        let to = image(&mut images, space, at, table.resets(e)) + (target * block) as usize;
+        let charge = table.price(e) as u32 + from.charge;
         queue::relax(words, space.nodes, to, charge, from.steps);
         e = moves::next_move(rules, halves, rules::after(rules, e));
     }

@@ -13,7 +13,7 @@ pub mod words;
 use regions::nodes;
 use regions::nodes::Nodes;
 use rules::RULES;
-use table::TABLE;
+use table::Table;
 
 // "8: E above 65,536".
 const TOO_MANY_NODES: u8 = 8;
@@ -29,9 +29,8 @@ pub enum Searched {
 }
 
 // E, or 8. No memory is lent and no search is made.
-pub fn nodes_of(table: &[u8; TABLE]) -> Searched
-    requires { IsTable table.now }
-    ensures { result ≡ nodes_of (automaton_of table.now) }
+pub fn nodes_of(table: &Table) -> Searched
+    ensures { result ≡ nodes_of (automaton_of table.now.bytes) }
 {
     let count = nodes::node_count(table);
     match count {
@@ -41,9 +40,8 @@ pub fn nodes_of(table: &[u8; TABLE]) -> Searched
 }
 
 // And 9, if so many words are too few.
-pub fn room(table: &[u8; TABLE], lent: usize) -> Searched
-    requires { IsTable table.now }
-    ensures { result ≡ answered (automaton_of table.now) lent }
+pub fn room(table: &Table, lent: usize) -> Searched
+    ensures { result ≡ answered (automaton_of table.now.bytes) lent }
 {
     let count = nodes_of(table);
     let Searched::Nodes(n) = count else {
@@ -56,10 +54,10 @@ pub fn room(table: &[u8; TABLE], lent: usize) -> Searched
 }
 
 // Finds the least charge and number of steps from the start to every corner that is as near as the goal.
-pub fn search(words: &mut [u32], table: &[u8; TABLE], rules: &[u8; RULES], goal: usize) -> Searched
-    requires { IsTable table.now × IsRules table.now rules.now }
-    ensures answer { result ≡ answered (automaton_of table.now) (length words.old) }
-    ensures words { words.new ≡ searched (automaton_of table.now) goal words.old }
+pub fn search(words: &mut [u32], table: &Table, rules: &[u8; RULES], goal: usize) -> Searched
+    requires { IsRules table.now.bytes rules.now }
+    ensures answer { result ≡ answered (automaton_of table.now.bytes) (length words.old) }
+    ensures words { words.new ≡ searched (automaton_of table.now.bytes) goal words.old }
 {
     let answer = room(table, words.len());
     let Searched::Nodes(n) = answer else {
@@ -73,9 +71,8 @@ pub fn search(words: &mut [u32], table: &[u8; TABLE], rules: &[u8; RULES], goal:
 }
 
 // Zeroes the words that a search used.
-pub fn clear(words: &mut [u32], table: &[u8; TABLE])
-    requires { IsTable table.now }
-    ensures { words.new ≡ cleared (automaton_of table.now) words.old }
+pub fn clear(words: &mut [u32], table: &Table)
+    ensures { words.new ≡ cleared (automaton_of table.now.bytes) words.old }
 {
     let answer = room(table, words.len());
     let Searched::Nodes(n) = answer else {

@@ -7,18 +7,18 @@ use near::{Cost, INFINITY};
 use regions::nodes;
 use rules::RULES;
 use space::Space;
-use table::TABLE;
+use table::Table;
 
 // Settles the nodes in the order of their costs up to the first of the goal, whose cost it gives: both INFINITY if there is none.
 pub fn settle_all(
     words: &mut [u32],
     space: Space,
-    table: &[u8; TABLE],
+    table: &Table,
     rules: &[u8; RULES],
     goal: usize,
 ) -> Cost
-    requires { FindReady table.now rules.now space goal words.old }
-    ensures { FoundGoal table.now space goal words.old words.new result }
+    requires { FindReady table.now.bytes rules.now space goal words.old }
+    ensures { FoundGoal table.now.bytes space goal words.old words.new result }
 {
     let ceilings = space.ceilings;
     let mut node = queue::first(words);

@@ -8,7 +8,7 @@ ghost use Rattle.space.specs.Space.{IsSpace, StartReady, IsStart};
 pub mod moves;
 
 use regions::{Region, nodes};
-use table::TABLE;
+use table::Table;
 
 // The number of nodes, and of those of a mode; the number of timers, and their ceilings, 0 behind the last one.
 #[derive(Clone, Copy)]
@@ -19,15 +19,14 @@ pub struct Space {
     pub ceilings: [u8; Region::MOST_TIMERS],
 }
 
-pub fn space_of(table: &[u8; TABLE]) -> Space
-    requires { IsTable table.now }
-    ensures { IsSpace table.now result }
+pub fn space_of(table: &Table) -> Space
+    ensures { IsSpace table.now.bytes result }
 {
-    let timers = table::timers(table);
-    let ceilings = table::ceilings(table);
+    let timers = table.timers();
+    let ceilings = table.ceilings();
     // The unit's core multiplies in 32 bits.
     let block = nodes::cell_count(ceilings) as u32 * Region::corners(timers) as u32;
-    let count = table::modes(table) as u32 * block;
+    let count = table.modes() as u32 * block;
     Space {
         nodes: count as usize,
         block: block as usize,

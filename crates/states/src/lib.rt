@@ -9,7 +9,7 @@ ghost use Rattle.arrays.specs.Arrays.{map_to};
 ghost use Rattle.states.specs.States.{most_timers, most_nodes, IsStates, StatesReady, IsState, zeroed_in, LeadReady, LeadDone};
 
 use corners::cells::{cell_at, cell_number, cells};
-use table::{MOST_TIMERS, TABLE};
+use table::{MOST_TIMERS, Table};
 
 // How many states there are, and of a mode; the number of timers, and their ceilings, 0 behind the last one.
 #[derive(Clone, Copy)]
@@ -27,17 +27,16 @@ pub struct State {
     pub values: [u8; MOST_TIMERS],
 }
 
-pub fn states_of(table: &[u8; TABLE]) -> States
-    requires { IsTable table.now }
-    ensures { IsStates table.now result }
+pub fn states_of(table: &Table) -> States
+    ensures { IsStates table.now.bytes result }
 {
-    let ceilings = table::ceilings(table);
+    let ceilings = table.ceilings();
     let cells = cells(ceilings);
-    let count = table::modes(table) as u32 * cells;
+    let count = table.modes() as u32 * cells;
     States {
         count: count as usize,
         cells: cells as usize,
-        timers: table::timers(table),
+        timers: table.timers(),
         ceilings,
     }
 }
@@ -98,12 +97,12 @@ fn zeroed(values: [u8; MOST_TIMERS], resets: u8) -> [u8; MOST_TIMERS]
 }
 
 // The node to which a move leads from a state with these values.
-pub fn lead(states: States, table: &[u8; TABLE], values: [u8; MOST_TIMERS], e: usize) -> usize
-    requires { LeadReady table.now states values e }
-    ensures { LeadDone table.now values e result }
+pub fn lead(states: States, table: &Table, values: [u8; MOST_TIMERS], e: usize) -> usize
+    requires { LeadReady table.now.bytes states values e }
+    ensures { LeadDone table.now.bytes values e result }
 {
     let ceilings = states.ceilings;
-    let target = table::target(table, e) as u32;
-    let cell = cell_number(ceilings, zeroed(values, table::resets(table, e)));
+    let target = table.target(e) as u32;
+    let cell = cell_number(ceilings, zeroed(values, table.resets(e)));
     (target * states.cells as u32 + cell) as usize
 }

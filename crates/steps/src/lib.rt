@@ -14,7 +14,7 @@ use regions::nodes::NodeRegion;
 use regions::{Region, nodes};
 use rules::RULES;
 use space::{Space, moves};
-use table::TABLE;
+use table::Table;
 
 // Where a walk stands: the node of the place's corner 0, a bit for each of its corners that is marked, how many steps led to it, and the byte from
 // which on steps are still to be tried.
@@ -219,15 +219,15 @@ fn image(images: &mut [u32; 8], space: Space, at: NodeRegion, resets: u8) -> u32
 fn along_move(
     words: &[u32],
     space: Space,
-    table: &[u8; TABLE],
+    table: &Table,
     stand: Stand,
     image: u32,
     e: usize,
 ) -> Next
-    requires { AlongReady table.now space stand words.now image e }
-    ensures { TriedOne table.now space stand words.now e result }
+    requires { AlongReady table.now.bytes space stand words.now image e }
+    ensures { TriedOne table.now.bytes space stand words.now e result }
 {
-    let target = table::target(table, e) as u32;
+    let target = table.target(e) as u32;
     // The unit's core multiplies in 32 bits.
     let block = space.block as u32;
     let to = (image % 65536 + target * block) as usize;
@@ -236,7 +236,7 @@ fn along_move(
         stand,
         image / 65536,
         to,
-        table::price(table, e) as u32,
+        table.price(e) as u32,
     );
     Next {
         byte: e,
@@ -249,13 +249,13 @@ fn along_move(
 fn by_move(
     words: &[u32],
     space: Space,
-    table: &[u8; TABLE],
+    table: &Table,
     rules: &[u8; RULES],
     at: NodeRegion,
     stand: Stand,
 ) -> Next
-    requires { StepReady table.now space at stand words.now × IsRules table.now rules.now }
-    ensures { Tried table.now space stand words.now (MoveByte stand) result }
+    requires { StepReady table.now.bytes space at stand words.now × IsRules table.now.bytes rules.now }
+    ensures { Tried table.now.bytes space stand words.now (MoveByte stand) result }
 {
     if DELAY <= stand.byte {
         return nowhere();
@@ -265,7 +265,7 @@ fn by_move(
     let mut images = [moves::NO_IMAGE; 8];
     let mut e = move_from(rules, halves, at.mode, stand.byte);
     while e < rules::NONE {
-        let by_resets = image(&mut images, space, at, table::resets(table, e));
+        let by_resets = image(&mut images, space, at, table.resets(e));
         let next = along_move(words, space, table, stand, by_resets, e);
         if next.set != 0 {
             return next;
@@ -279,13 +279,13 @@ fn by_move(
 fn by_delay(
     words: &[u32],
     space: Space,
-    table: &[u8; TABLE],
+    table: &Table,
     rules: &[u8; RULES],
     at: NodeRegion,
     stand: Stand,
 ) -> Next
-    requires { StepReady table.now space at stand words.now × IsRules table.now rules.now }
-    ensures { Tried table.now space stand words.now (OnlyByte 64 stand) result }
+    requires { StepReady table.now.bytes space at stand words.now × IsRules table.now.bytes rules.now }
+    ensures { Tried table.now.bytes space stand words.now (OnlyByte 64 stand) result }
 {
     if DELAY < stand.byte {
         return nowhere();
@@ -303,15 +303,15 @@ fn by_delay(
         delayed,
         to,
         region.top(),
-        table::rate(table, at.mode) as u32,
+        table.rate(at.mode) as u32,
     );
     found(DELAY, to, set)
 }
 
 // Tries to linger. Only where r0 is empty, so that a delay takes a corner away, does it lead on, from corner 0 to the last.
-fn by_linger(words: &[u32], table: &[u8; TABLE], at: NodeRegion, stand: Stand) -> Next
-    requires { LingerReady table.now at stand words.now }
-    ensures { LingerTried table.now at stand words.now result }
+fn by_linger(words: &[u32], table: &Table, at: NodeRegion, stand: Stand) -> Next
+    requires { LingerReady table.now.bytes at stand words.now }
+    ensures { LingerTried table.now.bytes at stand words.now result }
 {
     if LINGER < stand.byte {
         return nowhere();
@@ -329,7 +329,7 @@ fn by_linger(words: &[u32], table: &[u8; TABLE], at: NodeRegion, stand: Stand) -
         0,
         at.first,
         last,
-        table::rate(table, at.mode) as u32,
+        table.rate(at.mode) as u32,
     );
     found(LINGER, at.first, set)
 }
@@ -338,12 +338,12 @@ fn by_linger(words: &[u32], table: &[u8; TABLE], at: NodeRegion, stand: Stand) -
 pub fn next_step(
     words: &[u32],
     space: Space,
-    table: &[u8; TABLE],
+    table: &Table,
     rules: &[u8; RULES],
     stand: Stand,
 ) -> Next
-    requires { StandReady table.now rules.now space stand words.now }
-    ensures { NextStep table.now space stand words.now result }
+    requires { StandReady table.now.bytes rules.now space stand words.now }
+    ensures { NextStep table.now.bytes space stand words.now result }
 {
     let ceilings = space.ceilings;
     let at = nodes::region_at(space.timers, ceilings, stand.first);

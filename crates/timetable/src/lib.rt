@@ -13,7 +13,7 @@ use near::INFINITY;
 use reader::Verdict;
 use rules::RULES;
 use search::Searched;
-use table::TABLE;
+use table::Table;
 
 // "12 for a table with < or >".
 const NOT_CLOSED: u8 = 12;
@@ -35,7 +35,7 @@ pub fn timetable(bytes: &[u8], words: &mut [u32], route: &mut [u8]) -> Answer
         ≡ timetabled bytes.now words.old route.old }
     ensures promise { KeepsTimetable bytes.now words.old route.new result }
 {
-    let mut table = [0u8; TABLE];
+    let mut table = [0u8; Table];
     let verdict = reader::read(bytes, &mut table);
     match verdict {
         Verdict::Refused(n) => Answer::Refused(n),
@@ -44,10 +44,9 @@ pub fn timetable(bytes: &[u8], words: &mut [u32], route: &mut [u8]) -> Answer
 }
 
 // That of a table that was read. 12 comes "directly after 7".
-fn timetable_of(words: &mut [u32], route: &mut [u8], table: &[u8; TABLE]) -> Answer
-    requires { IsTable table.now }
+fn timetable_of(words: &mut [u32], route: &mut [u8], table: &Table) -> Answer
     ensures { outcome result words.new route.new
-        ≡ timetabled_table (automaton_of table.now) words.old route.old }
+        ≡ timetabled_table (automaton_of table.now.bytes) words.old route.old }
 {
     if !closed::is_closed(table) {
         return Answer::Refused(NOT_CLOSED);
@@ -64,14 +63,14 @@ fn timetable_of(words: &mut [u32], route: &mut [u8], table: &[u8; TABLE]) -> Ans
 }
 
 // Searches for it, and writes its pairs.
-fn find(words: &mut [u32], route: &mut [u8], table: &[u8; TABLE], nodes: usize) -> Answer
-    requires { FindReady table.now nodes words.old }
-    ensures { ReadOff table.now words.old route.old words.new route.new result }
+fn find(words: &mut [u32], route: &mut [u8], table: &Table, nodes: usize) -> Answer
+    requires { FindReady table.now.bytes nodes words.old }
+    ensures { ReadOff table.now.bytes words.old route.old words.new route.new result }
 {
     let mut rules = [0u8; RULES];
     rules::make(table, &mut rules);
     let states = states::states_of(table);
-    let best = minutes::search(words, states, table, &rules, table::goal(table));
+    let best = minutes::search(words, states, table, &rules, table.goal());
     let charge = best.charge;
     let pairs = best.steps as usize;
     if charge == INFINITY {

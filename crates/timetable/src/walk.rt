@@ -9,7 +9,7 @@ use near::INFINITY;
 use rules::RULES;
 use space::moves;
 use states::States;
-use table::TABLE;
+use table::Table;
 
 // A label counts this much for each minute.
 const MINUTE: u32 = 64;
@@ -54,13 +54,13 @@ fn reached_at(words: &[u32], node: usize, charge: u32, pairs: u32) -> bool
 fn tight_move(
     words: &[u32],
     states: States,
-    table: &[u8; TABLE],
+    table: &Table,
     rules: &[u8; RULES],
     from: Source,
     first: usize,
 ) -> Step
-    requires { MoveReady table.now rules.now states from first words.now }
-    ensures { MoveDone table.now rules.now states from first words.now result }
+    requires { MoveReady table.now.bytes rules.now states from first words.now }
+    ensures { MoveDone table.now.bytes rules.now states from first words.now result }
 {
     let at = from.at;
     let values = at.values;
@@ -68,7 +68,7 @@ fn tight_move(
     let mut e = steps::move_from(rules, halves, at.mode, first);
     while e < rules::NONE {
         let node = states::lead(states, table, values, e);
-        let charge = table::price(table, e) as u32 + from.charge;
+        let charge = table.price(e) as u32 + from.charge;
         if reached_at(words, node, charge, from.pairs) {
             return Step { made: e, node };
         }
@@ -84,13 +84,13 @@ fn tight_move(
 fn tight_after(
     words: &[u32],
     states: States,
-    table: &[u8; TABLE],
+    table: &Table,
     rules: &[u8; RULES],
     from: Source,
     label: u32,
 ) -> Step
-    requires { AfterReady table.now rules.now states from label words.now }
-    ensures { AfterDone table.now rules.now states from label words.now result }
+    requires { AfterReady table.now.bytes rules.now states from label words.now }
+    ensures { AfterDone table.now.bytes rules.now states from label words.now result }
 {
     let later = waits::wait(states, table, from, (label / MINUTE) as u8);
     if waits::stays(rules, later.at) {
@@ -113,12 +113,12 @@ fn tight_after(
 fn next_pair(
     words: &[u32],
     states: States,
-    table: &[u8; TABLE],
+    table: &Table,
     rules: &[u8; RULES],
     stand: Stand,
 ) -> Next
-    requires { NextReady table.now rules.now states stand words.now }
-    ensures { NextDone table.now rules.now states stand words.now result }
+    requires { NextReady table.now.bytes rules.now states stand words.now }
+    ensures { NextDone table.now.bytes rules.now states stand words.now result }
 {
     let at = states::state_at(states, stand.node);
     let values = at.values;
@@ -189,13 +189,13 @@ pub fn walk(
     words: &mut [u32],
     route: &mut [u8],
     states: States,
-    table: &[u8; TABLE],
+    table: &Table,
     rules: &[u8; RULES],
 )
-    requires { WalkReady table.now rules.now states words.old route.old }
-    ensures { WalkDone table.now states words.old route.old words.new route.new }
+    requires { WalkReady table.now.bytes rules.now states words.old route.old }
+    ensures { WalkDone table.now.bytes states words.old route.old words.new route.new }
 {
-    let goal = table::goal(table);
+    let goal = table.goal();
     let mut stand = Stand {
         node: START,
         depth: 0,

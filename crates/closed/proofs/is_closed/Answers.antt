@@ -7,29 +7,29 @@ use Rattle.closed.proofs.is_closed.Goals as goal
 
 pub rows_closed-requires : goal.rows_closed-requires
 rows_closed-requires c =
-    let t = c.args.table.now in
+    let t = c.args.table.now.bytes in
     let modes = c.modes-modes.ensures in (
-      table-length t c.requires,
+      table-length t c.args.table.now.is_table,
       omega arith,
-      omega (arith, modes-few t c.requires),
-      λ k l. omega (arith, modes-few t c.requires),
+      omega (arith, modes-few t c.args.table.now.is_table),
+      λ k l. omega (arith, modes-few t c.args.table.now.is_table),
     )
 
 pub returns-then-not-rows_closed : goal.returns-then-not-rows_closed
 returns-then-not-rows_closed c =
-    modes-not c.args.table.now c.requires _ c.modes-modes.ensures _ c.rows_closed.ensures c.if-not-rows_closed.true
+    modes-not c.args.table.now.bytes c.args.table.now.is_table _ c.modes-modes.ensures _ c.rows_closed.ensures c.if-not-rows_closed.true
 
 pub rows_closed-requires-2 : goal.rows_closed-requires-2
 rows_closed-requires-2 c =
-    let t = c.args.table.now in
+    let t = c.args.table.now.bytes in
     let moves = c.moves-moves.ensures in (
-      table-length t c.requires,
+      table-length t c.args.table.now.is_table,
       omega arith,
-      omega (arith, moves-few t c.requires),
-      λ k l. omega (arith, moves-few t c.requires),
+      omega (arith, moves-few t c.args.table.now.is_table),
+      λ k l. omega (arith, moves-few t c.args.table.now.is_table),
     )
 
 pub returns : goal.returns
 returns c =
-    then-moves c.args.table.now c.requires _ c.modes-modes.ensures _ c.rows_closed.ensures c.if-not-rows_closed.false _
+    then-moves c.args.table.now.bytes c.args.table.now.is_table _ c.modes-modes.ensures _ c.rows_closed.ensures c.if-not-rows_closed.false _
     c.moves-moves.ensures _ c.rows_closed-2.ensures

@@ -11,7 +11,7 @@ use Rattle.minutes.proofs.settle_all.Goals as goal
 -- The next node, from the call that finds its state.
 at-node :
     (c : After-state_at-at)
-    → AtNode c.args.table.now c.args.rules.now c.args.states c.args.goal c.args.words.now c.loop-node.words
+    → AtNode c.args.table.now.bytes c.args.rules.now c.args.states c.args.goal c.args.words.now c.loop-node.words
     c.loop-node.node c.state_at-at.result
 at-node c = record {
   setting = c.requires.setting;

@@ -10,7 +10,7 @@ use Rattle.route.proofs.read_route.Goals.{After-best-cost}
 use Rattle.route.proofs.read_route.Goals as goal
 
 -- The goal's cost.
-best_of : (c : After-best-cost) → IsBest c.args.nodes (automaton_of c.args.table.now).goal (length (automaton_of c.args.table.now).modes)
+best_of : (c : After-best-cost) → IsBest c.args.nodes (automaton_of c.args.table.now.bytes).goal (length (automaton_of c.args.table.now.bytes).modes)
     c.args.words.now c.best-cost.result
 best_of c =
     subst₂ (λ (l m : ℕ). IsBest c.args.nodes l m c.args.words.now c.best-cost.result) c.goal.ensures

@@ -20,28 +20,28 @@ fits a ws r n e is = answer-fits a (length ws) n (sym e ∙ is)
 
 pub returns-in_default : goal.returns-in_default
 returns-in_default c =
-    cleared-refused (automaton_of c.args.table.now) c.args.words.now c.in_default.field-0 (sym c.room-answer.ensures ∙ c.in_default.is)
+    cleared-refused (automaton_of c.args.table.now.bytes) c.args.words.now c.in_default.field-0 (sym c.room-answer.ensures ∙ c.in_default.is)
 
 pub overflow_mul-end : goal.overflow_mul-end
 overflow_mul-end c =
-    let f = fits (automaton_of c.args.table.now) c.args.words.now _ c.in-Nodes.n c.room-answer.ensures c.in-Nodes.is in
+    let f = fits (automaton_of c.args.table.now.bytes) c.args.words.now _ c.in-Nodes.n c.room-answer.ensures c.in-Nodes.is in
     let few = f.few in
     omega (arith, few)
 
 pub slice_bounds-fill-end : goal.slice_bounds-fill-end
 slice_bounds-fill-end c =
-    let f = fits (automaton_of c.args.table.now) c.args.words.now _ c.in-Nodes.n c.room-answer.ensures c.in-Nodes.is in
+    let f = fits (automaton_of c.args.table.now.bytes) c.args.words.now _ c.in-Nodes.n c.room-answer.ensures c.in-Nodes.is in
     let room = f.room in
     omega (arith, room)
 
 pub slice_bounds-fill-end-2 : goal.slice_bounds-fill-end-2
 slice_bounds-fill-end-2 c =
-    let f = fits (automaton_of c.args.table.now) c.args.words.now _ c.in-Nodes.n c.room-answer.ensures c.in-Nodes.is in
+    let f = fits (automaton_of c.args.table.now.bytes) c.args.words.now _ c.in-Nodes.n c.room-answer.ensures c.in-Nodes.is in
     sym (length-take-le (2 * c.in-Nodes.n) c.args.words.now f.room)
 
 pub returns : goal.returns
 returns c =
-    let a = automaton_of c.args.table.now in
+    let a = automaton_of c.args.table.now.bytes in
     let ws = c.args.words.now in
     let n = c.in-Nodes.n in
     let f = fits a ws _ n c.room-answer.ensures c.in-Nodes.is in

@@ -19,22 +19,22 @@ counts a r n e is = nodes-counted a n (sym e ∙ is)
 pub returns-in_default : goal.returns-in_default
 returns-in_default c =
     c.nodes_of-count.ensures
-    ∙ answer-many (automaton_of c.args.table.now) c.args.lent c.in_default.field-0 (sym c.nodes_of-count.ensures ∙ c.in_default.is)
+    ∙ answer-many (automaton_of c.args.table.now.bytes) c.args.lent c.in_default.field-0 (sym c.nodes_of-count.ensures ∙ c.in_default.is)
 
 pub overflow_mul-n : goal.overflow_mul-n
 overflow_mul-n c =
-    let k = counts (automaton_of c.args.table.now) _ c.in-Nodes.n c.nodes_of-count.ensures c.in-Nodes.is in
+    let k = counts (automaton_of c.args.table.now.bytes) _ c.in-Nodes.n c.nodes_of-count.ensures c.in-Nodes.is in
     let few = k.few in
     omega (arith, few)
 
 pub returns-then-lent-n : goal.returns-then-lent-n
 returns-then-lent-n c =
-    let a = automaton_of c.args.table.now in
+    let a = automaton_of c.args.table.now.bytes in
     let k = counts a _ c.in-Nodes.n c.nodes_of-count.ensures c.in-Nodes.is in
     answer-short a c.args.lent c.in-Nodes.n (sym k.counted) k.few c.if-lent-n.true
 
 pub returns : goal.returns
 returns c =
-    let a = automaton_of c.args.table.now in
+    let a = automaton_of c.args.table.now.bytes in
     let k = counts a _ c.in-Nodes.n c.nodes_of-count.ensures c.in-Nodes.is in
     answer-nodes a c.args.lent c.in-Nodes.n (sym k.counted) k.few c.if-lent-n.false

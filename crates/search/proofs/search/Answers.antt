@@ -8,20 +8,20 @@ use Rattle.search.proofs.Searching.{Searching, seeding, finding, keeping, near-f
 use Rattle.search.proofs.search.Goals as goal
 
 -- A search is made.
-searching : (c : After-start_node) → Searching c.args.table.now c.args.rules.now c.args.words.now c.in-Nodes.n c.space_of-space.result c.start_node.result
+searching : (c : After-start_node) → Searching c.args.table.now.bytes c.args.rules.now c.args.words.now c.in-Nodes.n c.space_of-space.result c.start_node.result
 searching c = record {
   is-table = c.requires.0;
   is-rules = c.requires.1;
-  fits = answer-fits (automaton_of c.args.table.now) (length c.args.words.now) c.in-Nodes.n (sym c.room-answer.ensures ∙ c.in-Nodes.is);
+  fits = answer-fits (automaton_of c.args.table.now.bytes) (length c.args.words.now) c.in-Nodes.n (sym c.room-answer.ensures ∙ c.in-Nodes.is);
   is-space = c.space_of-space.ensures;
-  begins = c.start_node.ensures c.args.table.now c.requires.0 c.space_of-space.ensures;
+  begins = c.start_node.ensures c.args.table.now.bytes c.requires.0 c.space_of-space.ensures;
 }
 
 pub returns-in_default : goal.returns-in_default
 returns-in_default c =
     let e = c.room-answer.ensures in record {
       answer = e;
-      words = searched-refused (automaton_of c.args.table.now) c.args.goal c.args.words.now c.in_default.field-0 (sym e ∙ c.in_default.is);
+      words = searched-refused (automaton_of c.args.table.now.bytes) c.args.goal c.args.words.now c.in_default.field-0 (sym e ∙ c.in_default.is);
     }
 
 pub seed-requires : goal.seed-requires
@@ -42,5 +42,5 @@ returns c =
       answer = sym e;
       words = near-found (searching (goal.at.returns c).After-start_node) c.args.goal c.seed.new.words c.seed.ensures c.settle_all-best.result
           c.settle_all-best.new.words c.settle_all-best.ensures c.keep_near.new.words c.keep_near.ensures
-          ∙ searched-nodes (automaton_of c.args.table.now) c.args.goal c.args.words.now c.in-Nodes.n e;
+          ∙ searched-nodes (automaton_of c.args.table.now.bytes) c.args.goal c.args.words.now c.in-Nodes.n e;
     }

@@ -12,7 +12,7 @@ use Rattle.space.proofs.Spaces.{block-few, nodes-few, space-is}
 use Rattle.space.proofs.space_of.Goals as goal
 
 pub cell_count-requires : goal.cell_count-requires
-cell_count-requires c = rw c.ceilings-ceilings.ensures (table-few c.args.table.now c.requires)
+cell_count-requires c = rw c.ceilings-ceilings.ensures (table-few c.args.table.now.bytes c.args.table.now.is_table)
 
 -- The struct, with 0 for what is not known yet.
 abbrev partly : ℕ → List ℕ → Space
@@ -21,12 +21,12 @@ partly n l = record { nodes = 0; block = 0; timers = n; ceilings = l }
 -- The product for a mode fits, and that for all modes.
 block-fits : (c : goal.After-corners) → c.cell_count.result * c.corners.result ≤ most_cells * 75
 block-fits c =
-    block-few c.args.table.now c.requires (partly c.timers-timers.result c.ceilings-ceilings.result) c.cell_count.result c.corners.result _ c.timers-timers.ensures
+    block-few c.args.table.now.bytes c.args.table.now.is_table (partly c.timers-timers.result c.ceilings-ceilings.result) c.cell_count.result c.corners.result _ c.timers-timers.ensures
     c.ceilings-ceilings.ensures c.cell_count.ensures.0 c.corners.ensures refl c.cell_count.ensures.2
 
 nodes-fit : (c : goal.After-modes) → c.modes.result * (c.cell_count.result * c.corners.result) ≤ 16 * (most_cells * 75)
 nodes-fit c =
-    nodes-few c.args.table.now c.requires (partly c.timers-timers.result c.ceilings-ceilings.result) c.cell_count.result c.corners.result c.modes.result
+    nodes-few c.args.table.now.bytes c.args.table.now.is_table (partly c.timers-timers.result c.ceilings-ceilings.result) c.cell_count.result c.corners.result c.modes.result
     c.timers-timers.ensures c.ceilings-ceilings.ensures c.cell_count.ensures.0 c.corners.ensures
     c.modes.ensures c.cell_count.ensures.2
 
@@ -35,14 +35,14 @@ overflow_cast-block c = omega (arith, c.cell_count.ensures.2)
 
 pub overflow_cast-block-2 : goal.overflow_cast-block-2
 overflow_cast-block-2 c =
-    omega (arith, c.corners.ensures, (corners-few c.timers-timers.result (omega (arith, c.timers-timers.ensures, table-timers c.args.table.now c.requires))).1)
+    omega (arith, c.corners.ensures, (corners-few c.timers-timers.result (omega (arith, c.timers-timers.ensures, table-timers c.args.table.now.bytes c.args.table.now.is_table))).1)
 
 pub overflow_mul-block : goal.overflow_mul-block
 overflow_mul-block c = omega (arith, block-fits c)
 
 pub overflow_cast-count : goal.overflow_cast-count
 overflow_cast-count c =
-    omega (arith, c.modes.ensures, few-modes c.args.table.now c.requires)
+    omega (arith, c.modes.ensures, few-modes c.args.table.now.bytes c.args.table.now.is_table)
 
 pub overflow_mul-count : goal.overflow_mul-count
 overflow_mul-count c = omega (arith, nodes-fit c)
@@ -55,6 +55,6 @@ overflow_cast-result-2 c = omega (arith, block-fits c.before)
 
 pub returns : goal.returns
 returns c =
-    space-is c.args.table.now c.requires _ c.cell_count.result c.corners.result c.modes.result
+    space-is c.args.table.now.bytes c.args.table.now.is_table _ c.cell_count.result c.corners.result c.modes.result
     c.timers-timers.ensures c.ceilings-ceilings.ensures c.cell_count.ensures.0 c.corners.ensures
     c.modes.ensures refl refl

@@ -9,13 +9,13 @@ use Rattle.states.proofs.states_of.Goals as goal
 
 fits : (c : goal.After-modes) → c.modes.result * c.cells-cells.result ≤ 65536
 fits c =
-    count_fits c.args.table.now c.requires c.modes.result c.cells-cells.result c.modes.ensures c.cells-cells.ensures.2
+    count_fits c.args.table.now.bytes c.args.table.now.is_table c.modes.result c.cells-cells.result c.modes.ensures c.cells-cells.ensures.2
 
 pub cells-cells-requires : goal.cells-cells-requires
-cells-cells-requires c = rw c.ceilings-ceilings.ensures (table-few c.args.table.now c.requires)
+cells-cells-requires c = rw c.ceilings-ceilings.ensures (table-few c.args.table.now.bytes c.args.table.now.is_table)
 
 pub overflow_cast-count : goal.overflow_cast-count
-overflow_cast-count c = omega (arith, modes-few c.args.table.now c.requires c.modes.result c.modes.ensures)
+overflow_cast-count c = omega (arith, modes-few c.args.table.now.bytes c.args.table.now.is_table c.modes.result c.modes.ensures)
 
 pub overflow_mul-count : goal.overflow_mul-count
 overflow_mul-count c = omega (arith, fits c)
@@ -25,5 +25,5 @@ overflow_cast-result c = omega (arith, fits c)
 
 pub returns : goal.returns
 returns c =
-    states-are c.args.table.now c.requires _ c.modes.result c.cells-cells.result c.modes.ensures c.cells-cells.ensures.0
+    states-are c.args.table.now.bytes c.args.table.now.is_table _ c.modes.result c.cells-cells.result c.modes.ensures c.cells-cells.ensures.0
     c.ceilings-ceilings.ensures c.timers.ensures refl refl

@@ -10,7 +10,7 @@ use Rattle.steps.proofs.along_move.Goals as goal
 pub overflow_cast-target : goal.overflow_cast-target
 overflow_cast-target c =
     let table = c.requires.ready.ready.setting.is-table in
-    omega (arith, c.target-target.ensures, target_below c.args.table.now table c.args.e c.requires.allowed.0, few-modes _ table)
+    omega (arith, c.target-target.ensures, target_below c.args.table.now.bytes table c.args.e c.requires.allowed.0, few-modes _ table)
 
 pub overflow_cast-block : goal.overflow_cast-block
 overflow_cast-block c =

@@ -23,7 +23,7 @@ halves-requires c =
 pub all_inside-requires : goal.all_inside-requires
 all_inside-requires c =
     let w = c.requires.0 in
-    (c.requires.1.size, omega (arith, place-mode c.args.table.now w.ready.setting.is-table (place_at c.args.at) w.here.corner.place))
+    (c.requires.1.size, omega (arith, place-mode c.args.table.now.bytes w.ready.setting.is-table (place_at c.args.at) w.here.corner.place))
 
 pub returns-then-not-all_inside : goal.returns-then-not-all_inside
 returns-then-not-all_inside c =

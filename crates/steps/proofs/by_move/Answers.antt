@@ -19,18 +19,18 @@ returns-then-stand-ge-DELAY c = tried-none c.nowhere.ensures (λ k m. absurd (om
 pub halves-halves-requires : goal.halves-halves-requires
 halves-halves-requires c =
     let w = c.requires.0 in
-    (w.here.corner.valid, place-half-room c.args.table.now w.ready.setting.is-table (place_at c.args.at) w.here.corner.place)
+    (w.here.corner.valid, place-half-room c.args.table.now.bytes w.ready.setting.is-table (place_at c.args.at) w.here.corner.place)
 
 pub move_from-e-requires : goal.move_from-e-requires
 move_from-e-requires c =
     let w = c.requires.0 in
-    (c.args.table.now, (w.ready.setting.is-table, c.requires.1, w.here.corner.place.in-modes, omega (arith, c.if-stand-ge-DELAY.false)))
+    (c.args.table.now.bytes, (w.ready.setting.is-table, c.requires.1, w.here.corner.place.in-modes, omega (arith, c.if-stand-ge-DELAY.false)))
 
 pub loop-e-init : goal.loop-e-init
 loop-e-init c =
     let w = c.requires.0 in
     let first =
-    c.move_from-e.ensures c.args.table.now
+    c.move_from-e.ensures c.args.table.now.bytes
     (w.ready.setting.is-table, c.requires.1, w.here.corner.place.in-modes, omega (arith, c.if-stand-ge-DELAY.false)) in
     (first.move, silent-first c.requires.0 c.requires.1 c.halves-halves.ensures first, images-none _)
 
@@ -56,7 +56,7 @@ pub after-requires : goal.after-requires
 after-requires c =
     (c.requires.1.size, c.loop-e-test.true)
 
-ready : (c : After-after) → NextFrom c.args.table.now c.args.rules.now c.after.result
+ready : (c : After-after) → NextFrom c.args.table.now.bytes c.args.rules.now c.after.result
 ready c =
     next-ready c.requires.1 (c.loop-e.invariant.0.there c.loop-e-test.true) c.after.ensures
 

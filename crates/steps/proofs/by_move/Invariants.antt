@@ -9,7 +9,7 @@ use Rattle.steps.proofs.by_move.Given as goal
 
 abbrev pub invariant-loop-e : goal.invariant-loop-e
 invariant-loop-e l =
-    OpenMove l.table l.rules l.halves l.at.mode l.e × SilentTo l.table l.space l.stand l.words l.e × Images (IsImage l.space l.at) l.images
+    OpenMove l.table.bytes l.rules l.halves l.at.mode l.e × SilentTo l.table.bytes l.space l.stand l.words l.e × Images (IsImage l.space l.at) l.images
 
 abbrev pub decreases-loop-e : goal.decreases-loop-e
 decreases-loop-e l = 64 - l.e

@@ -10,12 +10,12 @@ use Rattle.cases.proofs.Steps.{move-few, two-operations, operation-ready, second
 use Rattle.cases.proofs.places.moved.Goals as goal
 
 pub overflow_add-e : goal.overflow_add-e
-overflow_add-e c = omega (arith, move-few c.args.table.now c.requires.0.is-table c.args.e c.requires.1)
+overflow_add-e c = omega (arith, move-few c.args.table.now.bytes c.requires.0.is-table c.args.e c.requires.1)
 
 pub fits-open-requires : goal.fits-open-requires
 fits-open-requires c =
     let h = c.requires.0 in
-    (h.is-table, h.valid, omega (arith, move-few c.args.table.now h.is-table c.args.e c.requires.1))
+    (h.is-table, h.valid, omega (arith, move-few c.args.table.now.bytes h.is-table c.args.e c.requires.1))
 
 pub operated-cleared-requires : goal.operated-cleared-requires
 operated-cleared-requires c = operation-ready c.requires.0
@@ -25,7 +25,7 @@ operated-charged-requires c = second-ready c.requires.0 c.operated-cleared.ensur
 
 pub returns : goal.returns
 returns c =
-    let t = c.args.table.now in
+    let t = c.args.table.now.bytes in
     let below = target_below t c.requires.0.is-table c.args.e c.requires.1 in
     λ n o. two-operations o c.operated-cleared.ensures c.operated-charged.ensures
     (subst (λ (m : ℕ). m < length (automaton_of t).modes) (sym c.target.ensures) below)

@@ -22,18 +22,18 @@ use Rattle.minutes.proofs.edges.relax_moves.Goals as goal
 mode-there : {t rs : List ℕ} {s : States} {x : Source} {ws : List ℕ} → MovesReady t rs s x ws → x.at.mode < length (automaton_of t).modes
 mode-there p = omega (arith, hand-mode p.setting p.goal p.waited.hand, p.waited.stands.mode-is)
 
-begins : (c : After-first) → FirstFrom (automaton_of c.args.table.now) c.args.from.at.mode 0 c.first.result
+begins : (c : After-first) → FirstFrom (automaton_of c.args.table.now.bytes) c.args.from.at.mode 0 c.first.result
 begins c =
     first-begins c.requires.setting.is-rules (mode-there c.requires) c.first.ensures
 
 -- The node in hand, after the moves before e.
-held : (c : In-loop-e) → Waited c.args.table.now c.args.states c.args.from c.loop-e.words c.requires.goal c.requires.node
+held : (c : In-loop-e) → Waited c.args.table.now.bytes c.args.states c.args.from c.loop-e.words c.requires.goal c.requires.node
     c.requires.minutes
 held c = let p = c.requires in wait-again p.waited (c.loop-e.invariant.1 p.goal p.node p.minutes p.waited)
 
 next :
     (c : After-next_move-e-in-loop-e)
-    → OpenFrom c.args.table.now c.args.rules.now c.halves-halves.result c.args.from.at.mode (c.loop-e.e + 1)
+    → OpenFrom c.args.table.now.bytes c.args.rules.now c.halves-halves.result c.args.from.at.mode (c.loop-e.e + 1)
     c.next_move-e-in-loop-e.result
 next c =
     let some = c.loop-e-test.true in
@@ -77,7 +77,7 @@ overflow_cast-charge c =
     omega (
       arith,
       c.price.ensures,
-      price-within c.args.table.now c.requires.setting.is-table c.loop-e.e (c.loop-e.invariant.0.there c.loop-e-test.true),
+      price-within c.args.table.now.bytes c.requires.setting.is-table c.loop-e.e (c.loop-e.invariant.0.there c.loop-e-test.true),
     )
 
 pub overflow_add-charge : goal.overflow_add-charge

@@ -40,27 +40,27 @@ nodes-are t h modes cells n corners ceilings m c k i j =
 
 few-all : (c : goal.After-corner_count) → c.modes-modes.result * c.cells.result * c.corner_count.result ≤ 4915200
 few-all c =
-    all-few c.args.table.now c.requires c.modes-modes.result c.cells.result c.corner_count.result c.modes-modes.ensures
+    all-few c.args.table.now.bytes c.args.table.now.is_table c.modes-modes.result c.cells.result c.corner_count.result c.modes-modes.ensures
     c.cells.ensures.2 c.corner_count.ensures.2
 
-is : (c : goal.After-corner_count) → c.modes-modes.result * c.cells.result * c.corner_count.result ≡ node_count (automaton_of c.args.table.now)
+is : (c : goal.After-corner_count) → c.modes-modes.result * c.cells.result * c.corner_count.result ≡ node_count (automaton_of c.args.table.now.bytes)
 is c =
-    nodes-are c.args.table.now c.requires c.modes-modes.result c.cells.result c.timers.result c.corner_count.result c.ceilings.result
+    nodes-are c.args.table.now.bytes c.args.table.now.is_table c.modes-modes.result c.cells.result c.timers.result c.corner_count.result c.ceilings.result
     c.modes-modes.ensures c.ceilings.ensures c.cells.ensures.0 c.timers.ensures c.corner_count.ensures.0
 
 pub overflow_cast-modes : goal.overflow_cast-modes
-overflow_cast-modes c = omega (arith, modes-few c.args.table.now c.requires c.modes-modes.result c.modes-modes.ensures)
+overflow_cast-modes c = omega (arith, modes-few c.args.table.now.bytes c.args.table.now.is_table c.modes-modes.result c.modes-modes.ensures)
 
 pub cells-requires : goal.cells-requires
-cells-requires c = rw c.ceilings.ensures (table-few c.args.table.now c.requires)
+cells-requires c = rw c.ceilings.ensures (table-few c.args.table.now.bytes c.args.table.now.is_table)
 
 pub overflow_mul-count : goal.overflow_mul-count
 overflow_mul-count c =
-    omega (arith, cells-few c.args.table.now c.requires c.modes-modes.result c.cells.result c.modes-modes.ensures c.cells.ensures.2)
+    omega (arith, cells-few c.args.table.now.bytes c.args.table.now.is_table c.modes-modes.result c.cells.result c.modes-modes.ensures c.cells.ensures.2)
 
 pub corner_count-requires : goal.corner_count-requires
 corner_count-requires c =
-    omega (arith, c.timers.ensures, timer-count c.args.table.now c.requires, counts c.args.table.now c.requires)
+    omega (arith, c.timers.ensures, timer-count c.args.table.now.bytes c.args.table.now.is_table, counts c.args.table.now.bytes c.args.table.now.is_table)
 
 pub overflow_mul-count-2 : goal.overflow_mul-count-2
 overflow_mul-count-2 c = omega (arith, few-all c)

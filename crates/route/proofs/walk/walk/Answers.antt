@@ -14,7 +14,7 @@ use Rattle.route.proofs.walk.walk.Goals as goal
 
 -- Out of the goal.
 far : (c : In-loop-space) → (let args = c.args in
-    c.loop-space.stand.first / args.space.block ≢ (automaton_of args.table.now).goal)
+    c.loop-space.stand.first / args.space.block ≢ (automaton_of args.table.now.bytes).goal)
 far c e = c.loop-space-test.true (c.mode_of.ensures ∙ e ∙ sym c.goal-goal.ensures)
 
 pub goal-goal-requires : goal.goal-goal-requires

@@ -8,7 +8,7 @@ use Rattle.route.proofs.walk.walk.Given as goal
 
 abbrev pub invariant-loop-space : goal.invariant-loop-space
 invariant-loop-space l =
-    (w : WalkReady l.table l.rules l.space l.initial.words l.initial.route)
+    (w : WalkReady l.table.bytes l.rules l.space l.initial.words l.initial.route)
     → Walking w l.words l.route l.stand
 
 abbrev pub decreases-loop-space : goal.decreases-loop-space

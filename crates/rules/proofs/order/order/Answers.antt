@@ -12,7 +12,7 @@ moves-e-requires c = c.requires.0
 
 pub loop-e-init : goal.loop-e-init
 loop-e-init c =
-    let t = c.args.table.now in
+    let t = c.args.table.now.bytes in
     let p = c.requires in
     let all = c.moves-e.ensures in
     (omega arith, rw all (ordered-none (automaton_of t) c.args.rules.now (moves-few t p.0) p.2))
@@ -22,35 +22,35 @@ source-mode-requires c = (c.requires.0, omega arith)
 
 pub overflow_add-rules : goal.overflow_add-rules
 overflow_add-rules c =
-    omega (arith, source-few c.args.table.now c.requires.0 (c.loop-e.e - 1) (omega arith) _ c.source-mode.ensures)
+    omega (arith, source-few c.args.table.now.bytes c.requires.0 (c.loop-e.e - 1) (omega arith) _ c.source-mode.ensures)
 
 pub bounds-rules-mode : goal.bounds-rules-mode
 bounds-rules-mode c =
-    omega (arith, source-few c.args.table.now c.requires.0 (c.loop-e.e - 1) (omega arith) _ c.source-mode.ensures)
+    omega (arith, source-few c.args.table.now.bytes c.requires.0 (c.loop-e.e - 1) (omega arith) _ c.source-mode.ensures)
 
 pub overflow_add-rules-in-loop-e : goal.overflow_add-rules-in-loop-e
 overflow_add-rules-in-loop-e c =
-    omega (arith, source-few c.args.table.now c.requires.0 (c.loop-e.e - 1) (omega arith) _ c.source-mode.ensures)
+    omega (arith, source-few c.args.table.now.bytes c.requires.0 (c.loop-e.e - 1) (omega arith) _ c.source-mode.ensures)
 
 pub bounds-rules-e : goal.bounds-rules-e
 bounds-rules-e c =
-    omega (arith, source-few c.args.table.now c.requires.0 (c.loop-e.e - 1) (omega arith) _ c.source-mode.ensures)
+    omega (arith, source-few c.args.table.now.bytes c.requires.0 (c.loop-e.e - 1) (omega arith) _ c.source-mode.ensures)
 
 pub overflow_cast-rules : goal.overflow_cast-rules
 overflow_cast-rules c =
-    omega (arith, source-few c.args.table.now c.requires.0 (c.loop-e.e - 1) (omega arith) _ c.source-mode.ensures)
+    omega (arith, source-few c.args.table.now.bytes c.requires.0 (c.loop-e.e - 1) (omega arith) _ c.source-mode.ensures)
 
 pub overflow_add-rules-in-loop-e-2 : goal.overflow_add-rules-in-loop-e-2
 overflow_add-rules-in-loop-e-2 c =
-    omega (arith, source-few c.args.table.now c.requires.0 (c.loop-e.e - 1) (omega arith) _ c.source-mode.ensures)
+    omega (arith, source-few c.args.table.now.bytes c.requires.0 (c.loop-e.e - 1) (omega arith) _ c.source-mode.ensures)
 
 pub bounds-rules-mode-in-loop-e : goal.bounds-rules-mode-in-loop-e
 bounds-rules-mode-in-loop-e c =
-    omega (arith, source-few c.args.table.now c.requires.0 (c.loop-e.e - 1) (omega arith) _ c.source-mode.ensures)
+    omega (arith, source-few c.args.table.now.bytes c.requires.0 (c.loop-e.e - 1) (omega arith) _ c.source-mode.ensures)
 
 pub loop-e-preserved : goal.loop-e-preserved
 loop-e-preserved c =
-    let t = c.args.table.now in
+    let t = c.args.table.now.bytes in
     let e = c.loop-e.e - 1 in
     let there : e < length (automaton_of t).moves = omega arith in
     let few = source-few t c.requires.0 e there _ c.source-mode.ensures in

@@ -6,7 +6,7 @@ use Rattle.rules.specs.Making.{OrderedFrom}
 use Rattle.rules.proofs.order.order.Given as goal
 
 abbrev pub invariant-loop-e : goal.invariant-loop-e
-invariant-loop-e l = (l.e ≤ length (automaton_of l.table).moves) × OrderedFrom (automaton_of l.table) l.e l.initial.rules l.rules
+invariant-loop-e l = (l.e ≤ length (automaton_of l.table.bytes).moves) × OrderedFrom (automaton_of l.table.bytes) l.e l.initial.rules l.rules
 
 abbrev pub decreases-loop-e : goal.decreases-loop-e
 decreases-loop-e l = l.e

@@ -11,12 +11,12 @@ use Rattle.rules.proofs.Capping.{caps-none, caps-more}
 use Rattle.rules.proofs.rows.cap.Goals as goal
 
 -- What is read of the array is a ceiling, or 0.
-entries : (c : goal.After-ceilings-ceilings) → (x : ℕ) → get_or c.ceilings-ceilings.result x 0 ≡ get_or (automaton_of c.args.table.now).ceilings x 0
-entries c x = ap (λ (l : List ℕ). get_or l x 0) c.ceilings-ceilings.ensures ∙ get_or-pad 3 (automaton_of c.args.table.now).ceilings x
+entries : (c : goal.After-ceilings-ceilings) → (x : ℕ) → get_or c.ceilings-ceilings.result x 0 ≡ get_or (automaton_of c.args.table.now.bytes).ceilings x 0
+entries c x = ap (λ (l : List ℕ). get_or l x 0) c.ceilings-ceilings.ensures ∙ get_or-pad 3 (automaton_of c.args.table.now.bytes).ceilings x
 
 small : (c : goal.After-ceilings-ceilings) → (x : ℕ) → get_or c.ceilings-ceilings.result x 0 ≤ 15
 small c x =
-    let cs = (automaton_of c.args.table.now).ceilings in
+    let cs = (automaton_of c.args.table.now.bytes).ceilings in
     omega (arith, entries c x, get_or-all (λ k. k ≤ 15) cs (λ k m. (c.requires.0.range.ceilings-range k m).1) (omega arith) x)
 
 pub loop-mode-init : goal.loop-mode-init

@@ -6,7 +6,7 @@ use Rattle.rules.specs.Making.{CappedRows}
 use Rattle.rules.proofs.rows.cap.Given as goal
 
 abbrev pub invariant-loop-mode : goal.invariant-loop-mode
-invariant-loop-mode l = (l.mode ≤ l.modes) × CappedRows (automaton_of l.table).ceilings l.mode l.initial.rules l.rules
+invariant-loop-mode l = (l.mode ≤ l.modes) × CappedRows (automaton_of l.table.bytes).ceilings l.mode l.initial.rules l.rules
 
 abbrev pub decreases-loop-mode : goal.decreases-loop-mode
 decreases-loop-mode l = l.modes - l.mode

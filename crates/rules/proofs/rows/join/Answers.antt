@@ -11,19 +11,19 @@ use Rattle.rules.proofs.rows.join.Goals.{After-target, In-loop-e}
 use Rattle.rules.proofs.rows.join.Goals as goal
 
 -- In a turn the move is there, and so is its target.
-there : (c : In-loop-e) → c.loop-e.e < length (automaton_of c.args.table.now).moves
+there : (c : In-loop-e) → c.loop-e.e < length (automaton_of c.args.table.now.bytes).moves
 there c = omega (arith, c.moves-moves.ensures)
 
 target-few : (c : After-target) → c.target.result < 16
 target-few c =
-    let t = c.args.table.now in
+    let t = c.args.table.now.bytes in
     omega (arith, c.target.ensures, target_below t c.requires.0 c.loop-e.e (there c.before.before), modes-few t c.requires.0)
 
 pub loop-e-init : goal.loop-e-init
 loop-e-init c = (omega arith, rows_none _ _)
 
 pub overflow_add-e : goal.overflow_add-e
-overflow_add-e c = omega (arith, there (goal.at.overflow_add-e c).In-loop-e, moves-few c.args.table.now c.requires.0)
+overflow_add-e c = omega (arith, there (goal.at.overflow_add-e c).In-loop-e, moves-few c.args.table.now.bytes c.requires.0)
 
 pub target-requires : goal.target-requires
 target-requires c = (c.requires.0, there (goal.at.target-requires c).In-loop-e)
@@ -35,12 +35,12 @@ pub join_row-requires : goal.join_row-requires
 join_row-requires c = (
   c.loop-e.invariant.1.size ∙ c.requires.1,
   omega (arith, target-few (goal.at.join_row-requires c).After-target),
-  omega (arith, there (goal.at.join_row-requires c).In-loop-e, moves-few c.args.table.now c.requires.0),
+  omega (arith, there (goal.at.join_row-requires c).In-loop-e, moves-few c.args.table.now.bytes c.requires.0),
 )
 
 pub loop-e-preserved : goal.loop-e-preserved
 loop-e-preserved c =
-    let t = c.args.table.now in (
+    let t = c.args.table.now.bytes in (
       omega arith,
       rows_more (automaton_of t) _ c.loop-e.e c.loop-e.rules _ c.loop-e.invariant.1 _ _
           (move-resets t c.loop-e.e _ c.resets.ensures) c.target.ensures (target-few (goal.at.loop-e-preserved c).After-target) c.join_row.ensures,
@@ -48,5 +48,5 @@ loop-e-preserved c =
 
 pub returns : goal.returns
 returns c =
-    let all : c.loop-e.e ≡ length (automaton_of c.args.table.now).moves = omega (arith, c.moves-moves.ensures) in
+    let all : c.loop-e.e ≡ length (automaton_of c.args.table.now.bytes).moves = omega (arith, c.moves-moves.ensures) in
     rw all at c.loop-e.invariant.1

@@ -5,7 +5,7 @@ use Rattle.rules.specs.Making.{JoinedRows}
 use Rattle.rules.proofs.rows.join.Given as goal
 
 abbrev pub invariant-loop-e : goal.invariant-loop-e
-invariant-loop-e l = (l.e ≤ l.moves) × JoinedRows (automaton_of l.table) l.e l.initial.rules l.rules
+invariant-loop-e l = (l.e ≤ l.moves) × JoinedRows (automaton_of l.table.bytes) l.e l.initial.rules l.rules
 
 abbrev pub decreases-loop-e : goal.decreases-loop-e
 decreases-loop-e l = l.moves - l.e

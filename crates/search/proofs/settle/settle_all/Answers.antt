@@ -12,7 +12,7 @@ use Rattle.search.proofs.settle.settle_all.Goals as goal
 -- The next node, from the call that finds its region.
 at-node :
     (c : After-region_at-at)
-    → AtNode c.args.table.now c.args.rules.now c.args.space c.args.goal c.args.words.now c.loop-node.words
+    → AtNode c.args.table.now.bytes c.args.rules.now c.args.space c.args.goal c.args.words.now c.loop-node.words
     c.loop-node.node c.region_at-at.result
 at-node c = record {
   setting = c.requires.setting;

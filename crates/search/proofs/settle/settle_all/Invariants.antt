@@ -6,7 +6,7 @@ use Rattle.search.proofs.Settling.{Turn}
 use Rattle.search.proofs.settle.settle_all.Given as goal
 
 abbrev pub invariant-loop-node : goal.invariant-loop-node
-invariant-loop-node l = Turn l.table l.space l.goal l.initial.words l.words l.node
+invariant-loop-node l = Turn l.table.bytes l.space l.goal l.initial.words l.words l.node
 
 abbrev pub decreases-loop-node : goal.decreases-loop-node
 decreases-loop-node l = turns_left l.space.nodes l.node l.words

@@ -26,12 +26,12 @@ halves-halves-requires c i = omega (arith, c.requires.waited.room i)
 pub move_from-e-requires : goal.move_from-e-requires
 move_from-e-requires c =
     let z = c.requires.at-node.setting in
-    (c.args.table.now, (z.is-table, z.is-rules, mode-there c.requires, omega (arith, c.requires.few)))
+    (c.args.table.now.bytes, (z.is-table, z.is-rules, mode-there c.requires, omega (arith, c.requires.few)))
 
 pub loop-e-init : goal.loop-e-init
 loop-e-init c =
     let z = c.requires.at-node.setting in
-    let f = c.move_from-e.ensures c.args.table.now (z.is-table, z.is-rules, mode-there c.requires, omega (arith, c.requires.few)) in
+    let f = c.move_from-e.ensures c.args.table.now.bytes (z.is-table, z.is-rules, mode-there c.requires, omega (arith, c.requires.few)) in
     (f.move, none_first c.halves-halves.ensures f)
 
 pub lead-node-requires : goal.lead-node-requires
@@ -50,7 +50,7 @@ price-requires c = (c.requires.at-node.setting.is-table, c.loop-e.invariant.0.th
 pub overflow_cast-charge : goal.overflow_cast-charge
 overflow_cast-charge c =
     let there = c.loop-e.invariant.0.there c.loop-e-test.true in
-    omega (arith, c.price.ensures, price-within c.args.table.now c.requires.at-node.setting.is-table c.loop-e.e there)
+    omega (arith, c.price.ensures, price-within c.args.table.now.bytes c.requires.at-node.setting.is-table c.loop-e.e there)
 
 pub overflow_add-charge : goal.overflow_add-charge
 overflow_add-charge c =
@@ -77,7 +77,7 @@ next_move-e-requires c =
 
 next :
     (c : After-next_move-e)
-    → OpenFrom c.args.table.now c.args.rules.now c.halves-halves.result c.args.from.at.mode (c.loop-e.e + 1) c.next_move-e.result
+    → OpenFrom c.args.table.now.bytes c.args.rules.now c.halves-halves.result c.args.from.at.mode (c.loop-e.e + 1) c.next_move-e.result
 next c =
     let some = c.loop-e-test.true in
     let is = c.requires.at-node.setting.is-rules in

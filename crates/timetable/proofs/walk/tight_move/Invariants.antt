@@ -7,7 +7,7 @@ use Rattle.timetable.proofs.walk.tight_move.Given as goal
 
 abbrev pub invariant-loop-e : goal.invariant-loop-e
 invariant-loop-e l =
-    OpenMove l.table l.rules l.halves l.from.at.mode l.e × NoneTo l.table l.rules l.states l.from l.first l.words l.e
+    OpenMove l.table.bytes l.rules l.halves l.from.at.mode l.e × NoneTo l.table.bytes l.rules l.states l.from l.first l.words l.e
 
 abbrev pub decreases-loop-e : goal.decreases-loop-e
 decreases-loop-e l = 64 - l.e

@@ -13,7 +13,7 @@ use Rattle.timetable.proofs.walk.walk.Goals as goal
 
 -- Out of the goal.
 far : (c : In-loop-states) → (let args = c.args in
-    c.loop-states.stand.node / args.states.cells ≢ (automaton_of args.table.now).goal)
+    c.loop-states.stand.node / args.states.cells ≢ (automaton_of args.table.now.bytes).goal)
 far c e = c.loop-states-test.true (c.mode_of.ensures ∙ e ∙ sym c.goal-goal.ensures)
 
 pub goal-goal-requires : goal.goal-goal-requires

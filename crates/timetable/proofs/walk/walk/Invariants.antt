@@ -9,7 +9,7 @@ use Rattle.timetable.proofs.walk.walk.Given as goal
 
 abbrev pub invariant-loop-states : goal.invariant-loop-states
 invariant-loop-states l =
-    (w : WalkReady l.table l.rules l.states l.initial.words l.initial.route)
+    (w : WalkReady l.table.bytes l.rules l.states l.initial.words l.initial.route)
     → Walking w l.words l.route l.stand
 
 abbrev pub decreases-loop-states : goal.decreases-loop-states

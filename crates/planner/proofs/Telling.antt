@@ -8,10 +8,10 @@ use native.Mathlib.Omega.{arith}
 use borrow.Author.Tests.{ne_eqb}
 use lib.Dec.{eqb}
 use lib.ListN.{length}
-use Rattle.route.specs.declared.Answer.{Answer}
-use Rattle.route.specs.declared.Answer.TheVariants.{Refused, NoRoute, Route}
-use Rattle.route.specs.declared.Needs.{Needs}
-use Rattle.route.specs.declared.Needs.TheVariants.{Refused as Needs-as-Refused, Memory}
+use Rattle.route.specs.Answers.{Answer}
+use Rattle.route.specs.Answers.{Refused, NoRoute, Route}
+use Rattle.route.specs.Lend.{Needs}
+use Rattle.route.specs.Lend.{Refused as Needs-as-Refused, Memory}
 use Rattle.route.specs.Plan.{outcome, planned}
 use Rattle.route.specs.Promise.{KeepsDemand}
 use Rattle.route.specs.Refused.{planned-range}

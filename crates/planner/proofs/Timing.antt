@@ -16,10 +16,10 @@ use Rattle.semantics.specs.Timetable.{timetable}
 use Rattle.table.specs.Meaning.{automaton}
 use Rattle.reader.specs.Read.{Judgement, accepted, rejected, read}
 use Rattle.reader.specs.Theorems.Refusals.{rejected-range}
-use Rattle.search.specs.declared.Searched.TheVariants.{Nodes as Searched-as-Nodes, Refused as Searched-as-Refused}
+use Rattle.search.specs.Outcome.{Nodes as Searched-as-Nodes, Refused as Searched-as-Refused}
 use Rattle.search.specs.Outcome.{most_nodes, cleared}
-use Rattle.timetable.specs.declared.Answer.{Answer}
-use Rattle.timetable.specs.declared.Answer.TheVariants.{Refused, NoRoute, Timetable}
+use Rattle.timetable.specs.Answers.{Answer}
+use Rattle.timetable.specs.Answers.{Refused, NoRoute, Timetable}
 use Rattle.timetable.specs.Timetabled.{outcome, told, after_room, timetabled_table, judged, timetabled}
 use Rattle.timetable.specs.Promise.{KeepsTimetable}
 use Rattle.planner.specs.Numbers.{decoded_timetable, Untouched}

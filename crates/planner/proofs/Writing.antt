@@ -7,15 +7,15 @@ use mathlib.Core.List.{List}
 use Prim.Native.Nat.{ℕ, ◌≤◌}
 use native.Mathlib.Omega.{arith}
 use borrow.Author.Tests.{ne_eqb}
-use Rattle.reader.specs.declared.Verdict.{Verdict}
-use Rattle.reader.specs.declared.Verdict.TheVariants.{Accepted, Refused as Verdict-as-Refused}
+use Rattle.reader.specs.Reading.{Verdict}
+use Rattle.reader.specs.Reading.{Accepted, Refused as Verdict-as-Refused}
 use Rattle.reader.specs.Read.{read}
 use Rattle.reader.specs.Reading.{table_of, Reading}
 use Rattle.reader.specs.Theorems.Accepted.{rejected-read}
 use Rattle.reader.specs.Theorems.Refusals.{rejected-range}
 use Rattle.form.specs.Filled.{outcome as Filled·outcome, filled}
-use Rattle.writer.specs.declared.Written.{Written}
-use Rattle.writer.specs.declared.Written.TheVariants.{Bytes, Refused}
+use Rattle.writer.specs.Written.{Written}
+use Rattle.writer.specs.Written.{Bytes, Refused}
 use Rattle.writer.specs.Written.{outcome, written, Lays}
 use Rattle.writer.specs.Theorems.Refusals.{refused-range}
 use Rattle.planner.specs.Numbers.{decoded_written, decoded_verdict, Untouched}

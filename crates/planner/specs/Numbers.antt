@@ -1,16 +1,16 @@
 -- An answer in plain numbers, as include/planner.h documents it.
 -- Assumes nothing.
 use Rattle.std.specs.Prelude.{◌≡◌, ◌≢◌, cond, ℕ, eqb}
-use Rattle.route.specs.declared.Answer.{Answer}
-use Rattle.route.specs.declared.Answer.TheVariants.{Refused, NoRoute, Route}
-use Rattle.route.specs.declared.Needs.{Needs}
-use Rattle.route.specs.declared.Needs.TheVariants.{Refused as Needs-as-Refused, Memory}
-use Rattle.timetable.specs.declared.Answer.{Answer as Timetabled}
-use Rattle.timetable.specs.declared.Answer.TheVariants.{Refused as Timetabled-as-Refused, NoRoute as Timetabled-as-NoRoute, Timetable}
-use Rattle.writer.specs.declared.Written.{Written}
-use Rattle.writer.specs.declared.Written.TheVariants.{Bytes, Refused as Written-as-Refused}
-use Rattle.reader.specs.declared.Verdict.{Verdict}
-use Rattle.reader.specs.declared.Verdict.TheVariants.{Accepted, Refused as Verdict-as-Refused}
+use Rattle.route.specs.Answers.{Answer}
+use Rattle.route.specs.Answers.{Refused, NoRoute, Route}
+use Rattle.route.specs.Lend.{Needs}
+use Rattle.route.specs.Lend.{Refused as Needs-as-Refused, Memory}
+use Rattle.timetable.specs.Answers.{Answer as Timetabled}
+use Rattle.timetable.specs.Answers.{Refused as Timetabled-as-Refused, NoRoute as Timetabled-as-NoRoute, Timetable}
+use Rattle.writer.specs.Written.{Written}
+use Rattle.writer.specs.Written.{Bytes, Refused as Written-as-Refused}
+use Rattle.reader.specs.Reading.{Verdict}
+use Rattle.reader.specs.Reading.{Accepted, Refused as Verdict-as-Refused}
 
 -- The answer that the numbers stand for: 0 is a route with its charge and its number of steps, 255 no route, and any other number the
 -- refusal of that number.

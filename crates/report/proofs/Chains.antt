@@ -5,8 +5,8 @@ use mathlib.Core.List.{List, [], ◌∷◌, ◌++◌}
 use Prim.Native.Nat.{ℕ, ◌+◌, ◌≤◌}
 use native.Mathlib.Omega.{arith}
 use lib.ListN.{length, take, length-append}
-use Rattle.route.specs.declared.Answer.{Answer}
-use Rattle.route.specs.declared.Answer.TheVariants.{Refused, NoRoute, Route}
+use Rattle.route.specs.Answers.{Answer}
+use Rattle.route.specs.Answers.{Refused, NoRoute, Route}
 use Rattle.report.specs.Lines.{decimal, charge_text, route_text, no_route_text, refused_text, step_texts, lines}
 use Rattle.report.specs.Put.{Put}
 use Rattle.report.proofs.Putting.{put_both}

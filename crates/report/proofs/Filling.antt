@@ -8,7 +8,7 @@ use borrow.Author.Tests.{le-leb, lt-leb}
 use lib.ListN.{length, take, drop, length-append}
 use lib.Seq.{take_at}
 use Rattle.io.specs.Counts.{IsPrefixLen}
-use Rattle.route.specs.declared.Answer.{Answer}
+use Rattle.route.specs.Answers.{Answer}
 use Rattle.route.specs.Plan.{outcome, planned}
 use Rattle.report.specs.declared.Written.TheVariants.{Bytes, TooShort}
 use Rattle.report.specs.Lines.{lines}

@@ -1,7 +1,7 @@
 -- What stands in a destination that lines are put into.
 -- Assumes nothing.
 use Rattle.std.specs.Prelude.{cond, List, ◌++◌, ℕ, ◌+◌, ◌*◌, leb, length, drop}
-use Rattle.route.specs.declared.Answer.{Answer}
+use Rattle.route.specs.Answers.{Answer}
 use Rattle.report.specs.declared.Written.{Written}
 use Rattle.report.specs.declared.Written.TheVariants.{Bytes, TooShort}
 use Rattle.report.specs.Lines.{lines}

@@ -2,7 +2,7 @@
 -- Assumes nothing.
 use Rattle.std.specs.Prelude.{◌≡◌, refl, List, [], ◌∷◌, ◌++◌, ℕ}
 use Rattle.std.proofs.Common.{sym, arith}
-use Rattle.route.specs.declared.Answer.TheVariants.{Refused, NoRoute, Route}
+use Rattle.route.specs.Answers.{Refused, NoRoute, Route}
 use Rattle.report.specs.Lines.{decimal, lines}
 use Rattle.report.specs.Counting.{fewest-decimal}
 

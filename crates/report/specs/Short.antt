@@ -4,8 +4,8 @@ use Rattle.std.specs.Prelude.{◌≡◌, Bool, true, false, cond, List, [], ◌�
 use Rattle.std.proofs.Common.{sym, ap, ◌∙◌, arith, length-append, length-take, get_or-take}
 use Prim.{Unit}
 use Rattle.semantics.specs.Distinct.{distinct}
-use Rattle.route.specs.declared.Answer.{Answer}
-use Rattle.route.specs.declared.Answer.TheVariants.{Refused, NoRoute, Route}
+use Rattle.route.specs.Answers.{Answer}
+use Rattle.route.specs.Answers.{Refused, NoRoute, Route}
 use Rattle.report.specs.Lines.{decimal, charge_text, route_text, refused_text, step_texts, lines}
 use Rattle.report.specs.declared.Written.{Written}
 use Rattle.report.specs.declared.Written.TheVariants.{Bytes, TooShort}

@@ -3,7 +3,7 @@
 
 ghost use Rattle.std.specs.Prelude.{ℕ, ◌+◌, ◌≤◌, ◌≡◌, List, ◌++◌, [], length, take};
 ghost use Rattle.io.specs.Counts.{IsPrefixLen};
-ghost use Rattle.route.specs.declared.Answer.TheVariants.{Refused, Route};
+ghost use Rattle.route.specs.Answers.{Refused, Route};
 ghost use Rattle.report.specs.Lines.{decimal, step_texts};
 ghost use Rattle.report.specs.Lines.{lines as Lines·lines};
 ghost use Rattle.report.specs.Destination.{room, overwritten, filled, lines_into};

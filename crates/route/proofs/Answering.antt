@@ -25,7 +25,7 @@ use Rattle.near.specs.declared.Cost.{Cost as CostHeld}
 use Rattle.space.specs.declared.Space.{Space}
 use Rattle.space.specs.Space.{graph_of, start_of, IsSpace}
 use Rattle.near.specs.Near.{cost_entry, BestRoom, IsBest}
-use Rattle.route.specs.declared.Answer.TheVariants.{Refused, NoRoute, Route}
+use Rattle.route.specs.Answers.{Refused, NoRoute, Route}
 use Rattle.route.specs.Plan.{outcome, routed}
 use Rattle.route.specs.Walk.{RestKept, WalkReady, WalkDone}
 use Rattle.route.specs.Found.{Found, ReadOff}

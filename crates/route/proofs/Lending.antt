@@ -10,10 +10,10 @@ use Rattle.semantics.specs.Automaton.{Automaton}
 use Rattle.semantics.specs.NodeCount.{node_count}
 use Rattle.table.specs.Held.{fields_of, automaton_of}
 use Rattle.reader.specs.Read.{accepted, rejected, read}
-use Rattle.search.specs.declared.Searched.TheVariants.{Nodes as Searched-as-Nodes, Refused as Searched-as-Refused}
+use Rattle.search.specs.Outcome.{Nodes as Searched-as-Nodes, Refused as Searched-as-Refused}
 use Rattle.search.specs.Outcome.{most_nodes, nodes_of}
-use Rattle.route.specs.declared.Needs.{Needs}
-use Rattle.route.specs.declared.Needs.TheVariants.{Refused, Memory}
+use Rattle.route.specs.Lend.{Needs}
+use Rattle.route.specs.Lend.{Refused, Memory}
 use Rattle.route.specs.Lend.{needed_table, needed_judged, needed, Enough}
 use Rattle.route.proofs.Lent.{needed-enough}
 

@@ -17,9 +17,9 @@ use Rattle.reader.specs.Read.{Judgement, accepted, rejected, read}
 use Rattle.reader.specs.Theorems.Proper.{accepted-proper}
 use Rattle.reader.specs.Theorems.Refusals.{rejected-range}
 use Rattle.search.specs.Outcome.{most_nodes, cleared}
-use Rattle.search.specs.declared.Searched.TheVariants.{Nodes as Searched-as-Nodes, Refused as Searched-as-Refused}
-use Rattle.route.specs.declared.Answer.TheVariants.{Refused as Answer-as-Refused, Route}
-use Rattle.route.specs.declared.Needs.TheVariants.{Refused, Memory}
+use Rattle.search.specs.Outcome.{Nodes as Searched-as-Nodes, Refused as Searched-as-Refused}
+use Rattle.route.specs.Answers.{Refused as Answer-as-Refused, Route}
+use Rattle.route.specs.Lend.{Refused, Memory}
 use Rattle.route.specs.Plan.{outcome, routed, after_room, planned_table, planned}
 use Rattle.route.specs.Lend.{needed_table, needed_judged, needed, Enough}
 

@@ -10,13 +10,13 @@ use Rattle.reader.specs.Read.{Judgement, accepted, rejected, read}
 use Rattle.table.specs.Held.{fields_of, automaton_of, IsTable}
 use Rattle.rules.specs.Rules.{IsRules}
 use Rattle.search.specs.Outcome.{most_nodes}
-use Rattle.search.specs.declared.Searched.{Searched}
-use Rattle.search.specs.declared.Searched.TheVariants.{Nodes as Searched-as-Nodes, Refused as Searched-as-Refused}
+use Rattle.search.specs.Outcome.{Searched}
+use Rattle.search.specs.Outcome.{Nodes as Searched-as-Nodes, Refused as Searched-as-Refused}
 use Rattle.search.specs.Outcome.{answered, searched, cleared}
 use Rattle.search.specs.Laws.Goal.{searched-near, searched-room, cleared-searched}
 use Rattle.search.specs.Laws.Answers.{answer-fits, searched-refused}
-use Rattle.route.specs.declared.Answer.{Answer}
-use Rattle.route.specs.declared.Answer.TheVariants.{Refused}
+use Rattle.route.specs.Answers.{Answer}
+use Rattle.route.specs.Answers.{Refused}
 use Rattle.route.specs.Plan.{Outcome, outcome, after_room, planned_table, judged, planned}
 use Rattle.route.specs.Promise.{KeepsDemand}
 use Rattle.route.specs.Walk.{RestKept}

@@ -25,8 +25,8 @@ use Rattle.reader.specs.Read.{Judgement, accepted, rejected, read}
 use Rattle.reader.specs.Theorems.Accepted.{accepted-range}
 use Rattle.reader.specs.Theorems.Proper.{accepted-proper}
 use Rattle.search.specs.Outcome.{most_nodes, cleared}
-use Rattle.search.specs.declared.Searched.TheVariants.{Nodes as Searched-as-Nodes, Refused as Searched-as-Refused}
-use Rattle.route.specs.declared.Answer.TheVariants.{Refused, Route}
+use Rattle.search.specs.Outcome.{Nodes as Searched-as-Nodes, Refused as Searched-as-Refused}
+use Rattle.route.specs.Answers.{Refused, Route}
 use Rattle.route.specs.Plan.{outcome, routed, after_room, planned_table, judged, planned}
 
 -- E - 1 steps, each at the greatest price.

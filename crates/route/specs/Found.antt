@@ -10,7 +10,7 @@ use Rattle.rules.specs.Rules.{IsRules}
 use Rattle.search.specs.Outcome.{most_nodes, cleared}
 use Rattle.space.specs.Space.{graph_of, start_of}
 use Rattle.near.specs.Near.{BestRoom}
-use Rattle.route.specs.declared.Answer.{Answer}
+use Rattle.route.specs.Answers.{Answer}
 use Rattle.route.specs.Plan.{outcome, routed}
 use Rattle.route.specs.Walk.{RestKept}
 

@@ -18,9 +18,9 @@ use Rattle.reader.specs.Read.{Judgement, accepted, rejected, read}
 use Rattle.reader.specs.Theorems.Proper.{accepted-proper}
 use Rattle.reader.specs.Theorems.Refusals.{rejected-range}
 use Rattle.search.specs.Outcome.{most_nodes, answered, cleared}
-use Rattle.search.specs.declared.Searched.TheVariants.{Nodes as Searched-as-Nodes, Refused as Searched-as-Refused}
-use Rattle.route.specs.declared.Answer.{Answer}
-use Rattle.route.specs.declared.Answer.TheVariants.{Refused, NoRoute, Route}
+use Rattle.search.specs.Outcome.{Nodes as Searched-as-Nodes, Refused as Searched-as-Refused}
+use Rattle.route.specs.Answers.{Answer}
+use Rattle.route.specs.Answers.{Refused, NoRoute, Route}
 use Rattle.route.specs.Plan.{Outcome, outcome, routed, after_room, planned_table, judged, planned}
 use Rattle.route.specs.Promise.{IsSearched, KeepsDemand}
 

@@ -1,15 +1,26 @@
 -- Document 02, "How much to lend": what planning needs of memory, from the bytes alone; and what that promises of planning.
 -- Assumes nothing.
-use Rattle.std.specs.Prelude.{◌≡◌, ◌↔◌, cond, List, ℕ, ◌*◌, ◌-◌, ◌≤◌, ◌<◌, leb, length}
+use Rattle.std.specs.Prelude.{◌≡◌, ◌↔◌, cond, Result, Ok, Err, List, ℕ, ◌*◌, ◌-◌, ◌≤◌, ◌<◌, leb, length}
 use Rattle.semantics.specs.Automaton.{Automaton}
 use Rattle.semantics.specs.NodeCount.{node_count}
+use Rattle.table.specs.declared.refusals.Refusal.{Refusal}
+use Rattle.table.specs.Refusals.{number}
 use Rattle.table.specs.Meaning.{automaton}
 use Rattle.reader.specs.Read.{Judgement, accepted, rejected, read}
 use Rattle.search.specs.Outcome.{most_nodes}
-use Rattle.route.specs.declared.Answer.TheVariants.{Refused as Answer-as-Refused}
-use Rattle.route.specs.declared.Needs.{Needs}
-use Rattle.route.specs.declared.Needs.TheVariants.{Refused, Memory}
+use Rattle.route.specs.Answers.{Refused as Answer-as-Refused}
+use Rattle.route.specs.declared.Memory.{Memory as MemoryHeld}
 use Rattle.route.specs.Plan.{planned}
+
+-- A refusal with its number; or the words and the route bytes that are enough for planning.
+pub data Needs : Type 0 where
+  Refused : ℕ → Needs
+  Memory : ℕ → ℕ → Needs
+
+-- What the code answers.
+abbrev pub told_needs : Result MemoryHeld Refusal → Needs
+told_needs (Ok memory) = Memory memory.words memory.route
+told_needs (Err refusal) = Refused (number refusal)
 
 -- "the words needed, 2E, and E - 1 as route bytes"; 8 is "E above 65,536".
 unfoldable pub needed_table : Automaton → Needs

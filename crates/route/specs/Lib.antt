@@ -1,4 +1,5 @@
 -- What the contract of planning means.
+pub mod Answers
 pub mod Plan
 pub mod Promise
 -- What the contract of the call that says how much to lend means.

@@ -5,11 +5,11 @@ use Rattle.semantics.specs.Automaton.{Automaton}
 use Rattle.semantics.specs.Answer.{Answer as Best, no_route, route, answer}
 use Rattle.table.specs.Meaning.{automaton}
 use Rattle.reader.specs.Read.{Judgement, accepted, rejected, read}
-use Rattle.search.specs.declared.Searched.{Searched}
-use Rattle.search.specs.declared.Searched.TheVariants.{Nodes as Searched-as-Nodes, Refused as Searched-as-Refused}
+use Rattle.search.specs.Outcome.{Searched}
+use Rattle.search.specs.Outcome.{Nodes as Searched-as-Nodes, Refused as Searched-as-Refused}
 use Rattle.search.specs.Outcome.{answered, cleared}
-use Rattle.route.specs.declared.Answer.{Answer}
-use Rattle.route.specs.declared.Answer.TheVariants.{Refused, NoRoute, Route}
+use Rattle.route.specs.Answers.{Answer}
+use Rattle.route.specs.Answers.{Refused, NoRoute, Route}
 
 -- The answer, the words and the route bytes after a call.
 pub record Outcome : Type 0 where

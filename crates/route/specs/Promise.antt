@@ -11,8 +11,8 @@ use Rattle.table.specs.Fields.{Fields}
 use Rattle.table.specs.Meaning.{automaton}
 use Rattle.reader.specs.Read.{accepted, read}
 use Rattle.search.specs.Outcome.{most_nodes}
-use Rattle.route.specs.declared.Answer.{Answer}
-use Rattle.route.specs.declared.Answer.TheVariants.{Refused, NoRoute, Route}
+use Rattle.route.specs.Answers.{Answer}
+use Rattle.route.specs.Answers.{Refused, NoRoute, Route}
 
 -- The bytes are those of a table that planning does not refuse before the search, with so many words lent, and a is its automaton.
 pub record IsSearched (bytes : List ℕ) (lent : ℕ) (a : Automaton) : Type 0 where

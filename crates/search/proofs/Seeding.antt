@@ -19,7 +19,7 @@ use Rattle.queue.specs.Queue.{lows, slot_at, Queue, LowerReady, LowerDone}
 use Rattle.queue.specs.Laws.First.{empty-unreached, empty-queue}
 use Rattle.queue.specs.Laws.Lows.{lows-length, lowered-length, lowered-rest}
 use Rattle.search.specs.Exploring.{costs_in, Between}
-use Rattle.search.specs.Finding.{SeedReady, blank_words, Seeded}
+use Rattle.search.specs.Seeding.{SeedReady, blank_words, Seeded}
 
 -- As code leaves the words after the fill.
 pub blank-is :

@@ -1,96 +1,106 @@
--- The loop that settles the nodes of a table's graph: its turns by the structs of the code.
+-- The graph of a table's corners as a search goes through it: what its trait asks, by the structs of the code.
 -- Assumes nothing.
-use mathlib.Core.Path.{◌≡◌, sym, ◌∙◌}
-use mathlib.Core.Logic.{◌≢◌, ◌⊎◌, inl, inr}
+use mathlib.Core.Path.{◌≡◌, refl, sym, subst, ◌∙◌}
+use mathlib.Core.Logic.{◌≢◌, ◌↔◌, ◌⊎◌, inl, inr}
 use mathlib.Core.List.{List}
 use Prim.Native.Nat.{ℕ, ◌+◌, ◌*◌, ◌%◌, ◌<◌}
 use native.Mathlib.Decide.{dec_lt}
 use native.Mathlib.Omega.{arith}
-use lib.ListN.{length}
 use Rattle.semantics.specs.Graph.Path.{Edge, Target, charge_at, steps_at}
+use Rattle.semantics.proofs.Answers.Graph.{graph-nodes}
 use Rattle.semantics.specs.Answers.Modes.{graph-goal}
+use Rattle.table.specs.Fields.{most_price}
 use Rattle.table.specs.Held.{automaton_of}
 use Rattle.regions.specs.declared.nodes.NodeRegion.{NodeRegion}
-use Rattle.queue.specs.Queue.{slot_at, SettleReady, SettleDone}
+use Rattle.queue.specs.Queue.{lows}
+use Rattle.queue.specs.Laws.Lows.{lows-charge, lows-steps}
 use Rattle.space.specs.declared.Space.{Space}
 use Rattle.space.specs.Space.{graph_of, start_of, Setting}
 use Rattle.space.specs.Laws.NodeRegion.{CornerAt}
+use Rattle.space.specs.Laws.Shares.{nodes-three, start-below}
+use Rattle.near.specs.declared.Cost.{Cost as CostHeld}
 use Rattle.search.specs.declared.edges.Source.{Source}
-use Rattle.search.specs.Exploring.{Relaxes}
+use Rattle.search.specs.Exploring.{InHand, Relaxes}
+use Rattle.search.specs.Searches.{Searchable, VisitReady, AnyEdge, Visited}
 use Rattle.search.specs.Edges.{IsMove, IsWait, IsAny, rooted_of, Holding, EdgesReady, EdgesDone}
-use Rattle.search.specs.Finding.{FindReady, FoundGoal}
-use Rattle.search.proofs.Turning as turning
+use Rattle.search.specs.Laws.Goal.{goal-closed, goal-light, goal-small}
+use Rattle.search.proofs.FirstNode.{first-hand}
 
--- A turn of the loop over a table's graph.
-abbrev pub Turn : List ℕ → Space → ℕ → List ℕ → List ℕ → ℕ → Type 0
-Turn t s goal ws₀ ws node = turning.Turn (graph_of t goal) (start_of t) s.nodes ws₀ ws node
+module _ {t rs : List ℕ} {s : Space} (set : Setting t rs s) (goal : ℕ) where
+  -- There are as many nodes as the struct says.
+  pub size : s.nodes ≡ (graph_of t goal).nodes
+  size = set.is-space.nodes-are ∙ sym (graph-nodes (automaton_of t) goal)
 
-pub turn-starts :
-    {t rs : List ℕ} {s : Space} {goal : ℕ} {ws : List ℕ} → FindReady t rs s goal ws → (node : ℕ) → node ≡ slot_at ws 1 → Turn t s goal ws ws node
-turn-starts r node e = turning.turn-starts r.between node e
-
--- The struct that is made of its region and its cost.
-abbrev pub source_of : NodeRegion → ℕ → ℕ → Source
-source_of z charge steps = record { at = z; charge = charge; steps = steps + 1 }
-
--- The node is one, and its region is known.
-pub record AtNode (t rs : List ℕ) (s : Space) (goal : ℕ) (ws₀ ws : List ℕ) (node : ℕ) (z : NodeRegion) : Type 0 where
-  pub setting : Setting t rs s
-  pub turn : Turn t s goal ws₀ ws node
-  pub there : node < s.nodes
-  pub corner : CornerAt t node z
-
-module _ {t rs : List ℕ} {s : Space} {goal : ℕ} {ws₀ ws : List ℕ} {node : ℕ} {z : NodeRegion} (k : AtNode t rs s goal ws₀ ws node z) where
-  -- There are words for it.
-  pub node-room : 2 * node + 1 < length ws
-  node-room = turning.node-room k.turn k.there
-
-  -- Its cost is read.
-  module _ {charge steps : ℕ} (charge-is : charge ≡ charge_at ws node) (steps-are : steps ≡ steps_at ws node % 65536) where
-    -- It is of the goal.
-    pub turn-goal : z.mode ≡ goal → FoundGoal t s goal ws₀ ws (record { charge = charge; steps = steps })
-    turn-goal is =
-        turning.turn-target k.turn k.there charge-is steps-are
-        ((graph-goal (automaton_of t) goal node).1 (sym k.corner.mode-is ∙ is))
-
-    -- It is not: its edges are in hand.
-    module _ (away : z.mode ≢ goal) where
-      not-target : Target (graph_of t goal) node → ⊥
-      not-target x = away (k.corner.mode-is ∙ (graph-goal (automaton_of t) goal node).0 x)
-
-      holding : Holding t s (source_of z charge steps) ws goal
-      holding = record {
-        hand = rw k.corner.own (turning.turn-hand k.turn k.there not-target);
-        charge-is = rw k.corner.own (turning.own-charge k.turn k.there charge-is steps-are);
-        steps-are = rw k.corner.own (omega (arith, turning.own-steps k.turn k.there charge-is steps-are));
+  pub goal-searchable : Searchable (rooted_of t goal)
+  goal-searchable =
+      let a = automaton_of t in
+      let nodes = graph-nodes a goal in
+      let counted = set.is-space.nodes-are in
+      record {
+        two = omega (arith, nodes-three t set.is-table, nodes);
+        few = omega (arith, set.few, size);
+        there = omega (arith, start-below t set.is-table, nodes);
+        closed = goal-closed t set.is-table goal;
+        weight = most_price;
+        light = goal-light t set.is-table goal;
+        small = goal-small t set.is-table goal (omega (arith, set.few, counted));
       }
 
-      pub edges-ready : EdgesReady t rs s (source_of z charge steps) ws
-      edges-ready = record { setting = k.setting; corner = k.corner.corner; goal = goal; holding = holding }
+-- The struct that is made of a region and its cost.
+abbrev pub source_of : NodeRegion → CostHeld → Source
+source_of z c = record { at = z; charge = c.charge; steps = c.steps + 1 }
+
+-- The node is next, and its region is known.
+module _ {t rs : List ℕ} {s : Space} (set : Setting t rs s) {goal node : ℕ} {c : CostHeld} {ws : List ℕ} (k : VisitReady (rooted_of t goal) node c ws) where
+  pub there : node < s.nodes
+  there = omega (arith, k.there, size set goal)
+
+  pub steps-few : c.steps < 65536
+  steps-few = omega (arith, k.steps-are)
+
+  module _ {z : NodeRegion} (corner : CornerAt t node z) where
+    pub is-target : (z.mode ≡ goal) ↔ Target (graph_of t goal) node
+    is-target =
+        let by = graph-goal (automaton_of t) goal node in
+        (λ q. by.1 (sym corner.mode-is ∙ q), λ x. corner.mode-is ∙ by.0 x)
+
+    -- It is not of the goal: its edges are in hand.
+    module _ (away : z.mode ≢ goal) where
+      hand : InHand (rooted_of t goal) s.nodes node ws
+      hand =
+          subst (λ (n : ℕ). InHand (rooted_of t goal) n node ws) (sym (size set goal))
+          (first-hand k.between node k.there k.first (λ x. away (is-target.1 x)))
+
+      holding : Holding t s (source_of z c) ws goal
+      holding = record {
+        hand = rw corner.own hand;
+        charge-is = rw corner.own (k.charge-is ∙ sym (lows-charge s.nodes ws node));
+        steps-are = rw corner.own (omega (arith, k.steps-are, lows-steps s.nodes ws node there));
+      }
+
+      pub edges-ready : EdgesReady t rs s (source_of z c) ws
+      edges-ready = record { setting = set; corner = corner.corner; goal = goal; holding = holding }
 
       -- They were relaxed.
-      module _ {ws₁ : List ℕ} (edges : EdgesDone IsAny t s (source_of z charge steps) ws ws₁) where
-        relaxed : Relaxes (rooted_of t goal) s.nodes node IsAny ws ws₁
-        relaxed = rw k.corner.own at (edges goal holding)
+      pub edges-visited : {ws' : List ℕ} → EdgesDone IsAny t s (source_of z c) ws ws' → Relaxes (rooted_of t goal) (graph_of t goal).nodes node AnyEdge ws ws'
+      edges-visited {ws'} edges =
+          subst (λ (n : ℕ). Relaxes (rooted_of t goal) n node AnyEdge ws ws') (size set goal)
+          (relaxes-all any (rw corner.own at (edges goal holding)))
+        where
+          any : (e : Edge) → IsAny e
+          any e = at (dec_lt e.label 64)
+            where
+              at : Dec (e.label < 64) → IsWait e ⊎ IsMove e
+              at (yes h) = inr h
+              at (no h) = inl (omega arith)
 
-        any : (e : Edge) → IsAny e
-        any e = at (dec_lt e.label 64)
-          where
-            at : Dec (e.label < 64) → IsWait e ⊎ IsMove e
-            at (yes h) = inr h
-            at (no h) = inl (omega arith)
-
-        pub settle-ready : SettleReady s.nodes node ws₁
-        settle-ready = turning.settle-ready k.turn k.there (λ e l. any e) relaxed
-
-        -- And it was settled.
-        module _ {ws₂ : List ℕ} (done : SettleDone s.nodes node ws₁ ws₂) where
-          pub next-room : 3 < length ws₂
-          next-room = turning.next-room k.turn k.there (λ e l. any e) relaxed done
-
-          module _ (next : ℕ) (is : next ≡ slot_at ws₂ 1) where
-            pub turn-next : Turn t s goal ws₀ ws₂ next
-            turn-next = turning.turn-next k.turn k.there (λ e l. any e) relaxed done next is
-
-            pub turn-less : turning.turns_left s.nodes next ws₂ < turning.turns_left s.nodes node ws
-            turn-less = turning.turn-less k.turn k.there (λ e l. any e) relaxed done next is
+          relaxes-all : ((e : Edge) → IsAny e) → Relaxes (rooted_of t goal) s.nodes node IsAny ws ws' → Relaxes (rooted_of t goal) s.nodes node AnyEdge ws ws'
+          relaxes-all all x = record {
+            hand = x.hand;
+            same = x.same;
+            low = x.low;
+            edges = λ e l f. x.edges e l (all e);
+            unsettled = x.unsettled;
+            rest = x.rest;
+            kept = x.kept;
+          }

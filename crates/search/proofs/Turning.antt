@@ -1,7 +1,8 @@
 -- The loop that settles the nodes of a graph: what holds at each turn, that one turn leads to the next, and what holds at the end.
 -- Assumes nothing.
-use mathlib.Core.Path.{◌≡◌, refl, sym, ap, ap₂, ◌∙◌}
+use mathlib.Core.Path.{◌≡◌, refl, sym, ap, ap₂, subst, ◌∙◌}
 use mathlib.Core.Bool.{cond}
+use Rattle.std.specs.Prelude.{Some, None}
 use mathlib.Core.Logic.{◌≢◌, inl, inr}
 use mathlib.Core.List.{List}
 use Prim.Native.Nat.{ℕ, suc, ◌+◌, ◌*◌, ◌%◌, ◌≤◌, ◌<◌}
@@ -23,10 +24,10 @@ use Rattle.queue.specs.Laws.Lows.{lows-charge, lows-steps, costs-length, costs-r
 use Rattle.queue.specs.Laws.First.{first-pending, first-least}
 use Rattle.queue.specs.Laws.Once.{unsettled, unsettled_count, settled-once}
 use Rattle.near.specs.declared.Cost.{Cost as CostHeld}
-use Rattle.near.specs.Near.{cost_entry}
-use Rattle.search.specs.Exploring.{costs_in, Between, InHand, Relaxes, hand-settles, relaxes-done}
-use Rattle.search.specs.Finding.{FoundTarget}
-use Rattle.search.proofs.FirstNode.{none-explored, none-best, goal-explored, goal-within, goal-best, first-hand}
+use Rattle.near.specs.Near.{best_entry}
+use Rattle.search.specs.Exploring.{Rooted, costs_in, Between, Relaxes, hand-settles, relaxes-done}
+use Rattle.search.specs.Searches.{VisitReady, AnyEdge, FindReady, FoundTarget}
+use Rattle.search.proofs.FirstNode.{none-explored, none-best, goal-explored, goal-within, goal-best}
 
 -- How many nodes are still to be settled, if `node` is the next one.
 unfoldable pub turns_left : ℕ → ℕ → List ℕ → ℕ
@@ -75,109 +76,123 @@ module _ (nodes upto : ℕ) (ws : List ℕ) (q : Queue nodes upto ws) (u : ℕ) 
       at (yes there) = omega (arith, turns-are there)
       at (no n) = omega (arith, none_left (omega arith))
 
--- Nodes were settled up to some key, and the first of the pending ones is next.
-pub record Turn (g : Graph) (s nodes : ℕ) (ws₀ ws : List ℕ) (node : ℕ) : Type 0 where
+-- Nodes were settled up to some key.
+pub record Turn (r : Rooted) (ws₀ ws : List ℕ) : Type 0 where
   pub upto : ℕ
-  pub between : Between g s nodes upto ws
-  pub first : slot_at ws 1 ≡ node
-  pub rest : drop (2 * nodes) ws ≡ drop (2 * nodes) ws₀
+  pub between : Between r.graph r.start r.graph.nodes upto ws
+  pub rest : drop (2 * r.graph.nodes) ws ≡ drop (2 * r.graph.nodes) ws₀
   pub kept : length ws ≡ length ws₀
 
-pub turn-starts :
-    {g : Graph} {s nodes upto : ℕ} {ws : List ℕ} → Between g s nodes upto ws → (node : ℕ) → node ≡ slot_at ws 1 → Turn g s nodes ws ws node
-turn-starts {g} {s} {nodes} {upto} b node e = record { upto = upto; between = b; first = sym e; rest = refl; kept = refl }
+pub turn-starts : {r : Rooted} {ws : List ℕ} → FindReady r ws → Turn r ws ws
+turn-starts k = record { upto = k.upto; between = k.between; rest = refl; kept = refl }
 
-module _ {g : Graph} {s nodes : ℕ} {ws₀ ws : List ℕ} {node : ℕ} (turn : Turn g s nodes ws₀ ws node) where
-  -- What was found is told by an entry.
-  found :
-      (r : CostHeld) (x : Entry) → cost_entry r ≡ x → (r.charge ≡ infinity → r.steps ≡ infinity) → Explored g s x (costs_in nodes ws)
-      → ((a : Cost) → x ≡ reached a → TargetWithin g (costs_in nodes ws) a) → BestTarget g (costs_in nodes ws) x → FoundTarget g s nodes ws₀ ws r
-  found r x e blank explored within best = record {
-    explored = rw e explored;
-    within = λ a q. within a (sym e ∙ q);
-    best = rw e best;
-    blank = blank;
+-- How many nodes are still to be settled.
+abbrev pub turns : Rooted → List ℕ → ℕ
+turns r ws = turns_left r.graph.nodes (slot_at ws 1) ws
+
+module _ {r : Rooted} {ws₀ ws : List ℕ} (turn : Turn r ws₀ ws) where
+  abbrev nodes : ℕ
+  nodes = r.graph.nodes
+
+  -- There are words for the first slot.
+  pub first-room : 3 < length ws
+  first-room = omega (arith, turn.between.queue.words.two, turn.between.queue.words.room)
+
+  seated : Seated r.graph.nodes (slot_at ws 1)
+  seated = turn.between.queue.words.slots 1 (omega arith) (omega (arith, turn.between.queue.words.two))
+
+  -- Nobody is pending.
+  pub turn-none : none ≤ slot_at ws 1 → FoundTarget r ws₀ ws None
+  turn-none past = record {
+    explored = none-explored turn.between empty;
+    within = λ a q. distinct cc;
+    best = none-best turn.between empty;
     rest = turn.rest;
     kept = turn.kept;
   }
-
-  -- Nobody is pending.
-  pub turn-none : nodes ≤ node → (r : CostHeld) → r.charge ≡ infinity → r.steps ≡ infinity → FoundTarget g s nodes ws₀ ws r
-  turn-none past r charge steps =
-      let empty : slot_at ws 1 ≡ none = at (turn.between.queue.words.slots 1 (omega arith) (omega (arith, turn.between.queue.words.two))) in
-      let entry : cost_entry r ≡ unreached = rw (eq-eqb r.charge infinity charge) refl in
-      found r unreached entry (λ q. steps) (none-explored turn.between empty) (λ a q. distinct cc)
-      (none-best turn.between empty)
     where
-      at : Seated nodes (slot_at ws 1) → slot_at ws 1 ≡ none
+      at : Seated r.graph.nodes (slot_at ws 1) → slot_at ws 1 ≡ none
       at (inl e) = e
-      at (inr h) = absurd (omega (arith, turn.first))
+      at (inr h) = absurd (omega (arith, past, h, turn.between.queue.words.few))
+
+      empty : slot_at ws 1 ≡ none
+      empty = at seated
 
   -- A node is.
-  module _ (there : node < nodes) where
-    known : charge_at (lows nodes ws) node ≢ infinity
-    known = (first-pending nodes turn.upto ws turn.between.queue node there turn.first).0
+  module _ (node : ℕ) (first : slot_at ws 1 ≡ node) (some : node < none) where
+    pub there : node < r.graph.nodes
+    there = at seated
+      where
+        at : Seated r.graph.nodes (slot_at ws 1) → node < r.graph.nodes
+        at (inl e) = absurd (omega (arith, e, first))
+        at (inr h) = omega (arith, h, first)
+
+    known : charge_at (lows r.graph.nodes ws) node ≢ infinity
+    known = (first-pending r.graph.nodes turn.upto ws turn.between.queue node there first).0
 
     -- There are words for it.
     pub node-room : 2 * node + 1 < length ws
     node-room = omega (arith, there, turn.between.queue.words.room)
 
-    -- If it is no target its edges are in hand.
-    pub turn-hand : (Target g node → ⊥) → InHand (record { graph = g; start = s }) nodes node ws
-    turn-hand away = first-hand turn.between node there turn.first away
-
     -- Its cost is read.
-    module _ {charge steps : ℕ} (charge-is : charge ≡ charge_at ws node) (steps-are : steps ≡ steps_at ws node % 65536) where
-      pub own-charge : charge ≡ charge_at (lows nodes ws) node
-      own-charge = charge-is ∙ sym (lows-charge nodes ws node)
+    module _ {c : CostHeld} (charge-is : c.charge ≡ charge_at ws node) (steps-are : c.steps ≡ steps_at ws node % 65536) where
+      pub visit-ready : VisitReady r node c ws
+      visit-ready = record {
+        upto = turn.upto;
+        between = turn.between;
+        first = first;
+        there = there;
+        charge-is = charge-is;
+        steps-are = steps-are;
+      }
 
-      pub own-steps : steps ≡ steps_at (lows nodes ws) node
-      own-steps = steps-are ∙ sym (lows-steps nodes ws node there)
+      own-charge : c.charge ≡ charge_at (lows r.graph.nodes ws) node
+      own-charge = charge-is ∙ sym (lows-charge r.graph.nodes ws node)
+
+      own-steps : c.steps ≡ steps_at (lows r.graph.nodes ws) node
+      own-steps = steps-are ∙ sym (lows-steps r.graph.nodes ws node there)
 
       -- A target ends the loop.
-      pub turn-target : Target g node → FoundTarget g s nodes ws₀ ws (record { charge = charge; steps = steps })
+      pub turn-target : Target r.graph node → FoundTarget r ws₀ ws (Some c)
       turn-target target =
-          let r : CostHeld = record { charge = charge; steps = steps } in
-          let finite : charge ≢ infinity = λ q. known (sym own-charge ∙ q) in
-          let entry : cost_entry r ≡ reached (cost_in nodes ws node) =
-          rw (ne_eqb charge infinity finite) (ap₂ (λ (x y : ℕ). reached (cost x y)) own-charge own-steps) in
-          found r (reached (cost_in nodes ws node)) entry (λ q. absurd (finite q))
-          (goal-explored turn.between node there turn.first target) (goal-within turn.between node there turn.first target)
-          (goal-best turn.between node there turn.first target)
+          let entry : reached (cost_in r.graph.nodes ws node) ≡ best_entry (Some c) =
+          ap₂ (λ (x y : ℕ). reached (cost x y)) (sym own-charge) (sym own-steps) in
+          record {
+            explored = subst (λ (x : Entry). Explored r.graph r.start x (costs_in r.graph.nodes ws)) entry (goal-explored turn.between node there first target);
+            within = λ a q. goal-within turn.between node there first target a (entry ∙ q);
+            best = subst (λ (x : Entry). BestTarget r.graph (costs_in r.graph.nodes ws) x) entry (goal-best turn.between node there first target);
+            rest = turn.rest;
+            kept = turn.kept;
+          }
 
     -- All its edges were relaxed.
-    module _ {Fits : Edge → Type 0} {ws₁ : List ℕ} (all : (e : Edge) → Leaves g node e → Fits e)
-        (relaxed : Relaxes (record { graph = g; start = s }) nodes node Fits ws ws₁) where
-      pub settle-ready : SettleReady nodes node ws₁
+    module _ {ws₁ : List ℕ} (relaxed : Relaxes r r.graph.nodes node AnyEdge ws ws₁) where
+      pub settle-ready : SettleReady r.graph.nodes node ws₁
       settle-ready = hand-settles relaxed.hand
 
       -- And it was settled.
-      module _ {ws₂ : List ℕ} (done : SettleDone nodes node ws₁ ws₂) where
-        after : Between g s nodes (suc (key (lows nodes ws₁) node)) ws₂
-        after = relaxes-done all relaxed done
+      module _ {ws₂ : List ℕ} (done : SettleDone r.graph.nodes node ws₁ ws₂) where
+        after : Between r.graph r.start r.graph.nodes (suc (key (lows r.graph.nodes ws₁) node)) ws₂
+        after = relaxes-done (λ e l. tt) relaxed done
 
-        pub next-room : 3 < length ws₂
-        next-room = omega (arith, after.queue.words.two, after.queue.words.room)
+        pub turn-next : Turn r ws₀ ws₂
+        turn-next = record {
+          upto = suc (key (lows r.graph.nodes ws₁) node);
+          between = after;
+          rest = costs-rest r.graph.nodes ws₁ ws₂ done.costs ∙ relaxed.rest ∙ turn.rest;
+          kept = costs-length r.graph.nodes ws₁ ws₂ done.costs ∙ relaxed.kept ∙ turn.kept;
+        }
 
-        module _ (next : ℕ) (is : next ≡ slot_at ws₂ 1) where
-          pub turn-next : Turn g s nodes ws₀ ws₂ next
-          turn-next = record {
-            upto = suc (key (lows nodes ws₁) node);
-            between = after;
-            first = sym is;
-            rest = costs-rest nodes ws₁ ws₂ done.costs ∙ relaxed.rest ∙ turn.rest;
-            kept = costs-length nodes ws₁ ws₂ done.costs ∙ relaxed.kept ∙ turn.kept;
-          }
-
-          -- One node less is to be settled.
-          pub turn-less : turns_left nodes next ws₂ < turns_left nodes node ws
-          turn-less =
-              let h = relaxed.hand in
-              let was = turns-here nodes node ws there in
-              let now = turns-are nodes h.upto ws₁ h.queue node h.first there in
-              let here = turns-here nodes node ws₁ there in
-              let keys : key (lows nodes ws₁) node ≡ key (lows nodes ws) node = ap (λ (c : Cost). key_of c node) relaxed.same in
-              let same : unsettled_count nodes (key (lows nodes ws₁) node) ws₁ ≡ unsettled_count nodes (key (lows nodes ws) node) ws₁ =
-              ap (λ (m : ℕ). unsettled_count nodes m ws₁) keys in
-              let once = settled-once nodes node ws₁ ws₂ h.upto h.queue h.first there done in
-              omega (arith, was, now, here, same, relaxed.unsettled, once, turns-most nodes _ ws₂ after.queue next (sym is))
+        -- One node less is to be settled.
+        pub turn-less : turns r ws₂ < turns r ws
+        turn-less =
+            let h = relaxed.hand in
+            let was : turns_left r.graph.nodes (slot_at ws 1) ws ≡ unsettled_count r.graph.nodes (key (lows r.graph.nodes ws) node) ws =
+            rw first (turns-here r.graph.nodes node ws there) in
+            let now = turns-are r.graph.nodes h.upto ws₁ h.queue node h.first there in
+            let here = turns-here r.graph.nodes node ws₁ there in
+            let keys : key (lows r.graph.nodes ws₁) node ≡ key (lows r.graph.nodes ws) node = ap (λ (c : Cost). key_of c node) relaxed.same in
+            let same : unsettled_count r.graph.nodes (key (lows r.graph.nodes ws₁) node) ws₁ ≡ unsettled_count r.graph.nodes (key (lows r.graph.nodes ws) node) ws₁ =
+            ap (λ (m : ℕ). unsettled_count r.graph.nodes m ws₁) keys in
+            let once = settled-once r.graph.nodes node ws₁ ws₂ h.upto h.queue h.first there done in
+            omega (arith, was, now, here, same, relaxed.unsettled, once, turns-most r.graph.nodes _ ws₂ after.queue (slot_at ws₂ 1) refl)

@@ -4,6 +4,7 @@ use Rattle.std.specs.Prelude.{◌≡◌, ◌⊎◌, List, ℕ, suc, ◌+◌, ◌
 use Rattle.semantics.specs.Graph.Path.{Edge, charge_at, steps_at}
 use Rattle.queue.specs.Queue.{lows}
 use Rattle.space.specs.declared.Space.{Space}
+use Rattle.space.specs.declared.graph.CornerGraph.{CornerGraph}
 use Rattle.space.specs.Space.{graph_of, start_of, Setting, IsCorner}
 use Rattle.search.specs.declared.edges.Source.{Source}
 use Rattle.search.specs.Exploring.{Rooted, InHand, Relaxes}
@@ -46,3 +47,10 @@ pub record EdgesReady (t rs : List ℕ) (s : Space) (x : Source) (ws : List ℕ)
 -- For every goal for which it was, its edges that fit are relaxed.
 abbrev pub EdgesDone : (Edge → Type 0) → List ℕ → Space → Source → List ℕ → List ℕ → Type 0
 EdgesDone Fits t s x ws ws' = (goal : ℕ) → Holding t s x ws goal → Relaxes (rooted_of t goal) s.nodes (node_in x) Fits ws ws'
+
+-- The same by the struct that has the table, its rules and its space.
+abbrev pub EdgesReadyIn : CornerGraph → Source → List ℕ → Type 0
+EdgesReadyIn g = EdgesReady g.table.now.bytes g.rules.now g.space
+
+abbrev pub EdgesDoneIn : (Edge → Type 0) → CornerGraph → Source → List ℕ → List ℕ → Type 0
+EdgesDoneIn Fits g = EdgesDone Fits g.table.now.bytes g.space

@@ -6,6 +6,8 @@ pub mod Room
 pub mod Edges
 pub mod Waits
 pub mod Keep
-pub mod Finding
+pub mod Seeding
+-- And the search of any graph.
+pub mod Searches
 -- What a caller cites of them.
 pub mod Laws

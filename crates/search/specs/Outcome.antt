@@ -1,13 +1,23 @@
 -- What a search answers and leaves in the words lent, and what clearing leaves in them.
 -- Assumes nothing.
-use Rattle.std.specs.Prelude.{cond, List, ◌++◌, ℕ, ◌*◌, leb, length, drop, replicate}
+use Rattle.std.specs.Prelude.{cond, Result, Ok, Err, List, ◌++◌, ℕ, ◌*◌, leb, length, drop, replicate}
 use Rattle.semantics.specs.Automaton.{Automaton}
 use Rattle.semantics.specs.NodeCount.{node_count}
 use Rattle.semantics.specs.Graph.Near.{near_words}
 use Rattle.semantics.specs.Graph.CornerGraph.{start_node, corner_graph}
 pub use Rattle.regions.specs.Nodes.{most_nodes}
-use Rattle.search.specs.declared.Searched.{Searched}
-use Rattle.search.specs.declared.Searched.TheVariants.{Nodes, Refused}
+use Rattle.table.specs.declared.refusals.Refusal.{Refusal}
+use Rattle.table.specs.Refusals.{number}
+
+-- The number of nodes whose words a search uses; or, where it uses none, the number of a refusal.
+pub data Searched : Type 0 where
+  Nodes : ℕ → Searched
+  Refused : ℕ → Searched
+
+-- What the code answers.
+abbrev pub told : Result ℕ Refusal → Searched
+told (Ok n) = Nodes n
+told (Err refusal) = Refused (number refusal)
 
 -- "8: E above 65,536". Otherwise E.
 abbrev pub nodes_of : Automaton → Searched

@@ -2,14 +2,13 @@
 ghost use Rattle.std.specs.Prelude.{◌≡◌, ◌+◌, ◌*◌, ◌<◌, ◌≤◌};
 ghost use Rattle.table.specs.Meaning.{named_timers};
 ghost use Rattle.space.specs.Images.{image_of, NodeImage, ImageReady, Images, ImageDone};
-ghost use Rattle.search.specs.Edges.{IsMove, IsWait, IsAny, Short, EdgesReady, EdgesDone};
+ghost use Rattle.search.specs.Edges.{IsMove, IsWait, IsAny, Short, EdgesReadyIn, EdgesDoneIn};
 ghost use Rattle.search.specs.Waits.{IsDelay, IsLinger, WaitReady, WaitDone, DelayReady};
 
 use regions::nodes;
 use regions::nodes::NodeRegion;
-use rules::RULES;
+use space::graph::CornerGraph;
 use space::{Space, moves};
-use table::Table;
 
 // A node whose edges are relaxed: the corner that it is, its charge, and the steps with which its edges arrive, one more than its own.
 #[derive(Clone, Copy)]
@@ -20,21 +19,15 @@ pub struct Source {
 }
 
 // Relaxes the edges of a node. A cost of E steps or more is not offered: no least cost has so many.
-pub fn relax_edges(
-    words: &mut [u32],
-    space: Space,
-    table: &Table,
-    rules: &[u8; RULES],
-    from: Source,
-)
-    requires { EdgesReady table.now.bytes rules.now space from words.old }
-    ensures { EdgesDone IsAny table.now.bytes space from words.old words.new }
+pub fn relax_edges(words: &mut [u32], corners: &CornerGraph, from: Source)
+    requires { EdgesReadyIn corners.now from words.old }
+    ensures { EdgesDoneIn IsAny corners.now from words.old words.new }
 {
-    if space.nodes <= from.steps as usize {
+    if corners.space.nodes <= from.steps as usize {
         return;
     }
-    relax_waits(words, space, table, rules, from);
-    relax_moves(words, space, table, rules, from);
+    relax_waits(words, corners, from);
+    relax_moves(words, corners, from);
 }
 
 // Linger has an edge only where r0 is empty, from corner 0 to the last.
@@ -75,28 +68,21 @@ fn relax_delay(words: &mut [u32], nodes: usize, from: Source, to: usize, empty: 
 }
 
 // The edges of delay and linger. Delay: "Allowed if the new region meets the mode's conditions and every ceiling." The mode's row has both.
-fn relax_waits(
-    words: &mut [u32],
-    space: Space,
-    table: &Table,
-    rules: &[u8; RULES],
-    from: Source,
-)
-    requires { EdgesReady table.now.bytes rules.now space from words.old × Short space from }
-    ensures { EdgesDone IsWait table.now.bytes space from words.old words.new }
+fn relax_waits(words: &mut [u32], corners: &CornerGraph, from: Source)
+    requires { EdgesReadyIn corners.now from words.old × Short corners.now.space from }
+    ensures { EdgesDoneIn IsWait corners.now from words.old words.new }
 {
+    let space = corners.space;
     let at = from.at;
-    let region = at.region;
-    let ceilings = space.ceilings;
-    let rate = table.rate(at.mode) as u32;
-    let delayed = region.delay(0);
+    let rate = corners.table.rate(at.mode) as u32;
+    let delayed = at.region.delay(0);
     // Where r0 is empty a delay takes a corner away.
-    let empty = delayed.top() < region.top();
+    let empty = delayed.top() < at.region.top();
     relax_linger(words, space.nodes, from, empty, rate);
-    if !rules::all_inside(rules, at.mode, delayed.halves()) {
+    if !rules::all_inside(corners.rules, at.mode, delayed.halves()) {
         return;
     }
-    let to = nodes::node_of(at.mode, delayed, 0, ceilings);
+    let to = nodes::node_of(at.mode, delayed, 0, space.ceilings);
     relax_delay(words, space.nodes, from, to, empty, rate);
 }
 
@@ -137,28 +123,22 @@ fn image(images: &mut [u32; 8], space: Space, at: NodeRegion, resets: u8) -> usi
 }
 
 // The edges of moves.
-fn relax_moves(
-    words: &mut [u32],
-    space: Space,
-    table: &Table,
-    rules: &[u8; RULES],
-    from: Source,
-)
-    requires { EdgesReady table.now.bytes rules.now space from words.old × Short space from }
-    ensures { EdgesDone IsMove table.now.bytes space from words.old words.new }
+fn relax_moves(words: &mut [u32], corners: &CornerGraph, from: Source)
+    requires { EdgesReadyIn corners.now from words.old × Short corners.now.space from }
+    ensures { EdgesDoneIn IsMove corners.now from words.old words.new }
 {
     let at = from.at;
-    let region = at.region;
-    let halves = region.halves();
+    let halves = at.region.halves();
     // The unit's core multiplies in 32 bits.
-    let block = space.block as u32;
+    let block = corners.space.block as u32;
     let mut images = [moves::NO_IMAGE; 8];
-    let mut e = moves::next_move(rules, halves, rules::first(rules, at.mode));
-    while e < rules::NONE {
-        let target = table.target(e) as u32;
-        let to = image(&mut images, space, at, table.resets(e)) + (target * block) as usize;
-        let charge = table.price(e) as u32 + from.charge;
-        queue::relax(words, space.nodes, to, charge, from.steps);
-        e = moves::next_move(rules, halves, rules::after(rules, e));
+    let mut next = moves::next_move(corners.rules, halves, rules::first(corners.rules, at.mode));
+    while let Some(e) = next {
+        let target = corners.table.target(e) as u32;
+        let resets = corners.table.resets(e);
+        let to = image(&mut images, corners.space, at, resets) + (target * block) as usize;
+        let charge = corners.table.price(e) as u32 + from.charge;
+        queue::relax(words, corners.space.nodes, to, charge, from.steps);
+        next = moves::next_move(corners.rules, halves, rules::after(corners.rules, e));
     }
 }

@@ -1,35 +1,23 @@
 // The words of a search: the charge of node v stands at 2v, and its steps at 2v + 1.
-ghost use Rattle.std.specs.Prelude.{◌≡◌, length, replicate};
-ghost use Rattle.search.specs.Keep.{is_near, KeepReady, KeptNear};
+ghost use Rattle.std.specs.Prelude.{◌≡◌};
+ghost use Rattle.near.specs.Near.{NearRoom};
+ghost use Rattle.search.specs.Keep.{is_near, KeptNear};
 ghost use Rattle.search.specs.Finding.{SeedReady, Seeded};
 
 use near::{Cost, INFINITY};
-
-// Every word becomes x.
-pub fn fill(words: &mut [u32], x: u32)
-    ensures { words.new ≡ replicate (length words.old) x }
-{
-    let n = words.len();
-    let mut i = 0;
-    while i < n {
-        words[i] = x;
-        i += 1;
-    }
-}
 
 // No node is reached but the start, at cost 0.
 pub fn seed(words: &mut [u32], nodes: usize, start: usize)
     requires { SeedReady nodes start words.old }
     ensures { Seeded nodes start words.old words.new }
 {
-    let end = 2 * nodes;
-    fill(&mut words[..end], INFINITY);
+    words[..2 * nodes].fill(INFINITY);
     queue::lower(words, nodes, start, 0, 0);
 }
 
 // Nodes that are charged more than the cost, or have more steps, become unreached, and the queue goes: what is left of the others is their costs.
-pub fn keep_near(words: &mut [u32], nodes: usize, best: Cost)
-    requires { KeepReady nodes best words.old }
+pub fn keep_near(words: &mut [u32], nodes: usize, best: Option<Cost>)
+    requires { NearRoom nodes words.old }
     ensures { KeptNear nodes best words.old words.new }
 {
     for v in 0..nodes {
@@ -42,14 +30,14 @@ pub fn keep_near(words: &mut [u32], nodes: usize, best: Cost)
 }
 
 // Whether a node of this cost is reached, and no dearer and no farther than the best.
-fn is_near(charge: u32, steps: u32, best: Cost) -> bool
+fn is_near(charge: u32, steps: u32, best: Option<Cost>) -> bool
     ensures { result ≡ is_near charge steps best }
 {
     if charge == INFINITY {
         return false;
     }
-    if best.charge < charge {
-        return false;
+    match best {
+        None => true,
+        Some(cost) => charge <= cost.charge && steps <= cost.steps,
     }
-    steps <= best.steps
 }

@@ -5,6 +5,7 @@
 ghost use Rattle.table.specs.Held.{IsTable};
 ghost use Rattle.space.specs.Space.{IsSpace, StartReady, IsStart};
 
+pub mod graph;
 pub mod moves;
 
 use regions::{Region, nodes};

@@ -8,12 +8,12 @@ use lib.ListN.{length, drop, replicate}
 use Rattle.semantics.specs.Closed.{closed_table}
 use Rattle.table.specs.Held.{fields_of, automaton_of}
 use Rattle.reader.specs.Read.{Judgement, accepted, rejected, read}
-use Rattle.search.specs.declared.Searched.{Searched}
-use Rattle.search.specs.declared.Searched.TheVariants.{Nodes as Searched-as-Nodes, Refused as Searched-as-Refused}
+use Rattle.search.specs.Outcome.{Searched}
+use Rattle.search.specs.Outcome.{Nodes as Searched-as-Nodes, Refused as Searched-as-Refused}
 use Rattle.search.specs.Outcome.{answered, cleared}
 use Rattle.search.specs.Laws.Answers.{answer-fits, cleared-nodes}
-use Rattle.timetable.specs.declared.Answer.{Answer}
-use Rattle.timetable.specs.declared.Answer.TheVariants.{Refused}
+use Rattle.timetable.specs.Answers.{Answer}
+use Rattle.timetable.specs.Answers.{Refused}
 use Rattle.timetable.specs.Timetabled.{Outcome, outcome, after_room, timetabled_table, judged, timetabled}
 use Rattle.timetable.specs.Promise.{KeepsTimetable}
 use Rattle.timetable.specs.Keeps.{timetabled-keeps}

@@ -39,7 +39,7 @@ use Rattle.states.specs.States.{IsStates}
 use Rattle.minutes.specs.Edges.{Setting}
 use Rattle.minutes.specs.Finding.{SearchReady, SearchDone}
 use Rattle.states.specs.Laws.Bounds.{ceiling-few}
-use Rattle.timetable.specs.declared.Answer.TheVariants.{Refused, NoRoute, Timetable}
+use Rattle.timetable.specs.Answers.{Refused, NoRoute, Timetable}
 use Rattle.timetable.specs.Timetabled.{outcome, told}
 use Rattle.timetable.specs.Steps.{goal_graph}
 use Rattle.route.specs.Walk.{RestKept}

@@ -5,7 +5,7 @@ use Rattle.semantics.specs.Timetable.{timetable}
 use Rattle.table.specs.Held.{automaton_of, IsTable}
 use Rattle.search.specs.Outcome.{cleared}
 use Rattle.search.specs.Laws.Answers.{Fits}
-use Rattle.timetable.specs.declared.Answer.{Answer}
+use Rattle.timetable.specs.Answers.{Answer}
 use Rattle.timetable.specs.Timetabled.{outcome, told}
 use Rattle.route.specs.Walk.{RestKept}
 

@@ -24,13 +24,13 @@ use Rattle.reader.specs.Read.{Judgement, accepted, rejected, read}
 use Rattle.reader.specs.Theorems.Proper.{accepted-proper}
 use Rattle.reader.specs.Theorems.Refusals.{rejected-range}
 use Rattle.search.specs.Outcome.{most_nodes, answered, cleared}
-use Rattle.search.specs.declared.Searched.TheVariants.{Nodes as Searched-as-Nodes, Refused as Searched-as-Refused}
-use Rattle.route.specs.declared.Answer.TheVariants.{Route}
+use Rattle.search.specs.Outcome.{Nodes as Searched-as-Nodes, Refused as Searched-as-Refused}
+use Rattle.route.specs.Answers.{Route}
 use Rattle.route.specs.Plan.{planned}
 use Rattle.route.specs.Promise.{IsSearched}
 use Rattle.route.specs.Keeps.{planned-keeps}
-use Rattle.timetable.specs.declared.Answer.{Answer}
-use Rattle.timetable.specs.declared.Answer.TheVariants.{Refused, NoRoute, Timetable}
+use Rattle.timetable.specs.Answers.{Answer}
+use Rattle.timetable.specs.Answers.{Refused, NoRoute, Timetable}
 use Rattle.timetable.specs.Timetabled.{Outcome, outcome, told, after_room, timetabled_table, judged, timetabled}
 use Rattle.timetable.specs.Promise.{IsTimetabled, KeepsTimetable}
 use Rattle.timetable.specs.Same.{timetable-answer, same_none, exists-both}

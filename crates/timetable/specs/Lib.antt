@@ -1,4 +1,5 @@
 -- What the contract of the call means.
+pub mod Answers
 pub mod Timetabled
 pub mod Promise
 -- That the outcome of the definitions keeps what is promised of it.

@@ -7,11 +7,11 @@ use Rattle.semantics.specs.Answer.{no_route, route, answer}
 use Rattle.semantics.specs.Demand.{AtLeast, NoRun}
 use Rattle.semantics.specs.Closed.{closed_table}
 use Rattle.semantics.specs.Timetable.{Timetable as IsTimetable, state_count}
-use Rattle.route.specs.declared.Answer.TheVariants.{Route}
+use Rattle.route.specs.Answers.{Route}
 use Rattle.route.specs.Plan.{planned}
 use Rattle.route.specs.Promise.{IsSearched}
-use Rattle.timetable.specs.declared.Answer.{Answer}
-use Rattle.timetable.specs.declared.Answer.TheVariants.{Refused, NoRoute, Timetable}
+use Rattle.timetable.specs.Answers.{Answer}
+use Rattle.timetable.specs.Answers.{Refused, NoRoute, Timetable}
 
 -- The bytes are those of a table that the call does not refuse before the search, with so many words lent, and a is its automaton.
 pub record IsTimetabled (bytes : List ℕ) (lent : ℕ) (a : Automaton) : Type 0 where

@@ -7,11 +7,11 @@ use Rattle.semantics.specs.Closed.{closed_table}
 use Rattle.semantics.specs.Timetable.{timetable}
 use Rattle.table.specs.Meaning.{automaton}
 use Rattle.reader.specs.Read.{Judgement, accepted, rejected, read}
-use Rattle.search.specs.declared.Searched.{Searched}
-use Rattle.search.specs.declared.Searched.TheVariants.{Nodes as Searched-as-Nodes, Refused as Searched-as-Refused}
+use Rattle.search.specs.Outcome.{Searched}
+use Rattle.search.specs.Outcome.{Nodes as Searched-as-Nodes, Refused as Searched-as-Refused}
 use Rattle.search.specs.Outcome.{answered, cleared}
-use Rattle.timetable.specs.declared.Answer.{Answer}
-use Rattle.timetable.specs.declared.Answer.TheVariants.{Refused, NoRoute, Timetable}
+use Rattle.timetable.specs.Answers.{Answer}
+use Rattle.timetable.specs.Answers.{Refused, NoRoute, Timetable}
 
 -- The answer, the words and the route bytes after a call.
 pub record Outcome : Type 0 where

@@ -2,7 +2,7 @@
 -- Assumes nothing.
 use mathlib.Core.List.{[]}
 use native.Mathlib.Omega.{arith}
-use Rattle.route.specs.declared.Answer.TheVariants.{Refused, Route}
+use Rattle.route.specs.Answers.{Refused, Route}
 use Rattle.report.specs.Short.{AreBytes, lines-short}
 use Rattle.report.proofs.Chains.{lines-refused, lines_none, lines-route}
 use Rattle.report.proofs.put_lines.Goals as goal

@@ -1,7 +1,7 @@
 -- `search::clear` meets its contract. Assumes nothing.
 use Rattle.semantics.specs.Automaton.{Automaton}
-use Rattle.search.specs.declared.Searched.{Searched}
-use Rattle.search.specs.declared.Searched.TheVariants.{Nodes}
+use Rattle.search.specs.Outcome.{Searched}
+use Rattle.search.specs.Outcome.{Nodes}
 use Rattle.search.specs.Outcome.{answered}
 use mathlib.Core.Path.{◌≡◌, sym, ap, ◌∙◌}
 use mathlib.Core.List.{List, ◌++◌}

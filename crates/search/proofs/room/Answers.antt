@@ -2,8 +2,8 @@
 use Prim.Native.Nat.{ℕ}
 use mathlib.Core.Path.{◌≡◌}
 use Rattle.semantics.specs.Automaton.{Automaton}
-use Rattle.search.specs.declared.Searched.{Searched}
-use Rattle.search.specs.declared.Searched.TheVariants.{Nodes}
+use Rattle.search.specs.Outcome.{Searched}
+use Rattle.search.specs.Outcome.{Nodes}
 use Rattle.search.specs.Outcome.{nodes_of}
 use mathlib.Core.Path.{sym, ◌∙◌}
 use native.Mathlib.Omega.{arith}

@@ -10,8 +10,8 @@ use Rattle.semantics.specs.Graph.Near.{near_words}
 use Rattle.semantics.specs.Graph.CornerGraph.{start_node, corner_graph}
 use Rattle.regions.specs.declared.nodes.Nodes.TheVariants.{Count, TooMany}
 use Rattle.regions.specs.Nodes.{most_nodes, bounded}
-use Rattle.search.specs.declared.Searched.{Searched}
-use Rattle.search.specs.declared.Searched.TheVariants.{Nodes, Refused}
+use Rattle.search.specs.Outcome.{Searched}
+use Rattle.search.specs.Outcome.{Nodes, Refused}
 use Rattle.search.specs.Outcome.{nodes_of, answered, unless_refused, searched, cleared}
 
 -- E, or 8: from the count of the nodes.

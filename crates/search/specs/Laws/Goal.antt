@@ -32,8 +32,8 @@ use Rattle.space.specs.Space.{graph_of, start_of}
 use Rattle.space.specs.Laws.Shares.{share, share-quotient, shared-out, share-below, nodes-shared, some-modes, start-below, few-modes}
 use Rattle.near.specs.declared.Cost.{Cost as CostHeld}
 use Rattle.near.specs.Near.{cost_entry, BestRoom, InMode, IsBest}
-use Rattle.search.specs.declared.Searched.{Searched}
-use Rattle.search.specs.declared.Searched.TheVariants.{Nodes, Refused}
+use Rattle.search.specs.Outcome.{Searched}
+use Rattle.search.specs.Outcome.{Nodes, Refused}
 use Rattle.search.specs.Outcome.{answered, searched, cleared}
 use Rattle.search.specs.Laws.Answers.{answer-nodes, answer-fits, searched-refused, searched-nodes, cleared-nodes}
 

@@ -22,10 +22,8 @@ module _ (t : List ℕ) (table : IsTable t) where
   pub moves-few : length (automaton_of t).moves ≤ 64
   moves-few = (table-proper t table).few-moves
 
-  pub source-few :
-      (e : ℕ) → e < length (automaton_of t).moves → (mode : ℕ) → mode ≡ (move_at (automaton_of t) e).source
-      → (mode < length (automaton_of t).modes) × (length (automaton_of t).modes ≤ 16) × (e < 64)
-  source-few e l mode own = omega (arith, source-below t table e l, modes-few, moves-few)
+  pub source_few : (e : ℕ) → e < length (automaton_of t).moves → (move_at (automaton_of t) e).source < 16
+  source_few e l = omega (arith, source-below t table e l, modes-few)
 
 module _ (a : Automaton) where
   -- The same move.

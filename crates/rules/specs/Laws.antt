@@ -1,2 +1,3 @@
 -- What a caller concludes from the rules of a table.
+pub mod Moves
 pub mod Windows

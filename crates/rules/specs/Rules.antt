@@ -1,7 +1,7 @@
 -- What a search looks at instead of a table's conditions, 560 bytes: for each mode and move the window of each timer in half minutes, and the moves
 -- of each mode one after another.
 -- Assumes nothing.
-use Rattle.std.specs.Prelude.{◌≡◌, ◌≢◌, List, ℕ, ◌+◌, ◌*◌, ◌≤◌, ◌<◌, length, get_or}
+use Rattle.std.specs.Prelude.{◌≡◌, ◌≢◌, cond, List, ℕ, ◌+◌, ◌*◌, ◌≤◌, ◌<◌, ltb, Option, Some, None, length, get_or}
 use Rattle.semantics.specs.Condition.{Condition}
 use Rattle.semantics.specs.Automaton.{Automaton, mode_at, move_at}
 use Rattle.semantics.specs.Run.{among}
@@ -33,6 +33,10 @@ after_of rs e = get_or rs (496 + e) 0
 -- No move.
 abbrev pub none : ℕ
 none = 64
+
+-- The move that a byte behind the rows names.
+abbrev pub as_move : ℕ → Option ℕ
+as_move r = cond (ltb r none) (Some r) None
 
 -- Move r is the first from e on that leaves mode m, or none does and r is 64.
 pub record FirstFrom (a : Automaton) (m e r : ℕ) : Type 0 where

@@ -2,9 +2,9 @@
 // mode one after another.
 #![tactic(auto)]
 
-ghost use Rattle.std.specs.Prelude.{◌≡◌, true, ◌&&◌, ◌↔◌, ◌<◌, leb, ltb, length};
+ghost use Rattle.std.specs.Prelude.{◌≡◌, true, ◌&&◌, ◌↔◌, ◌<◌, leb, ltb};
 ghost use Rattle.table.specs.Held.{IsTable};
-ghost use Rattle.rules.specs.Rules.{window_of, low_at, high_at, InRow, first_of, after_of, IsRules};
+ghost use Rattle.rules.specs.Rules.{window_of, low_at, high_at, InRow, first_of, after_of, as_move, IsRules};
 
 use table::{MOST_TIMERS, Table};
 
@@ -23,8 +23,8 @@ const AFTER: usize = 496;
 
 pub const RULES: usize = 560;
 
-// No move.
-pub const NONE: usize = 64;
+// The byte that names no move.
+const NONE: u8 = 64;
 
 // Makes the rules of a table.
 pub fn make(table: &Table, rules: &mut [u8; RULES])
@@ -55,40 +55,37 @@ pub fn make(table: &Table, rules: &mut [u8; RULES])
     order::order(table, rules);
 }
 
-// The first move of a mode, or NONE.
-pub fn first(rules: &[u8; RULES], mode: usize) -> usize
-    requires { (length rules.now ≡ 560) × (mode < 16) }
-    ensures { result ≡ first_of rules.now mode }
+// The first move of a mode.
+pub fn first(rules: &[u8; RULES], mode: usize) -> Option<usize>
+    requires { mode < 16 }
+    ensures { result ≡ as_move (first_of rules.now mode) }
 {
-    number(rules[FIRST + mode])
+    as_move(rules[FIRST + mode])
 }
 
-// The move after a move, from the same mode, or NONE.
-pub fn after(rules: &[u8; RULES], e: usize) -> usize
-    requires { (length rules.now ≡ 560) × (e < 64) }
-    ensures { result ≡ after_of rules.now e }
+// The move after a move, from the same mode.
+pub fn after(rules: &[u8; RULES], e: usize) -> Option<usize>
+    requires { e < 64 }
+    ensures { result ≡ as_move (after_of rules.now e) }
 {
-    number(rules[AFTER + e])
+    as_move(rules[AFTER + e])
 }
 
 // Whether a timer that stands at a place is in its window of a row.
 pub fn inside(rules: &[u8; RULES], row: usize, timer: usize, half: u8) -> bool
-    requires { (length rules.now ≡ 560) × (row < 80) × (timer < 3) }
+    requires { (row < 80) × (timer < 3) }
     ensures { result ≡ (leb (low_at rules.now row timer) half && ltb half (high_at rules.now row timer)) }
 {
     let at = 2 * window(row, timer);
-    if half < rules[at] {
-        return false;
-    }
-    half < rules[at + 1]
+    (rules[at]..rules[at + 1]).contains(&half)
 }
 
 // Whether all timers are.
-pub fn all_inside(rules: &[u8; RULES], row: usize, halves: [u8; 3]) -> bool
-    requires { (length rules.now ≡ 560) × (row < 80) }
+pub fn all_inside(rules: &[u8; RULES], row: usize, halves: [u8; MOST_TIMERS]) -> bool
+    requires { row < 80 }
     ensures { (result ≡ true) ↔ InRow rules.now row halves }
 {
-    for timer in 0..3 {
+    for timer in 0..MOST_TIMERS {
         if !inside(rules, row, timer, halves[timer]) {
             return false;
         }
@@ -104,9 +101,13 @@ fn window(row: usize, timer: usize) -> usize
     (MOST_TIMERS as u32 * row as u32) as usize + timer
 }
 
-// A byte as a number. Of a parameter it is known that it is below 256, of a byte in an array behind a reference it is not.
-fn number(byte: u8) -> usize
-    ensures { result ≡ byte }
+// The move that a byte names.
+fn as_move(byte: u8) -> Option<usize>
+    ensures { result ≡ as_move byte }
 {
-    byte as usize
+    if byte < NONE {
+        Some(usize::from(byte))
+    } else {
+        None
+    }
 }

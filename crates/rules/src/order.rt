@@ -9,23 +9,19 @@ use table::Table;
 
 // No move is the first one of a mode.
 pub fn no_moves(rules: &mut [u8; RULES], modes: usize)
-    requires { (length rules.old ≡ 560) × (modes ≤ 16) }
+    requires { modes ≤ 16 }
     ensures { Wrote (λ m. none) 480 modes rules.old rules.new }
 {
-    for mode in 0..modes {
-        rules[FIRST + mode] = NONE as u8;
-    }
+    rules[FIRST..FIRST + modes].fill(NONE);
 }
 
 // From the last move on, each is put before those of its mode.
+#[tactic(auto, using(crate::proofs::Ordering::source_few))]
 pub fn order(table: &Table, rules: &mut [u8; RULES])
-    requires { (length rules.old ≡ 560)
-        × ((m : ℕ) → m < length (automaton_of table.now.bytes).modes → first_of rules.old m ≡ none) }
+    requires { (m : ℕ) → m < length (automaton_of table.now.bytes).modes → first_of rules.old m ≡ none }
     ensures { OrderedFrom (automaton_of table.now.bytes) 0 rules.old rules.new }
 {
-    let mut e = table.moves();
-    while 0 < e {
-        e -= 1;
+    for e in (0..table.moves()).rev() {
         let mode = table.source(e);
         rules[AFTER + e] = rules[FIRST + mode];
         rules[FIRST + mode] = e as u8;

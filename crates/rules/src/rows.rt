@@ -16,7 +16,7 @@ pub fn fill(
     rules: &mut [u8; RULES],
     row: usize,
 )
-    requires { (length table.now ≡ 904) × (length rules.old ≡ 560) × (row + count ≤ 80) × (stride ≤ 12)
+    requires { (row + count ≤ 80) × (stride ≤ 12)
         × ((k : ℕ) → k < count → at + stride * k + 6 ≤ 904) }
     ensures { FilledRows (condition_bytes table.now at stride) count row rules.old rules.new }
 {
@@ -29,23 +29,17 @@ pub fn fill(
 
 // To the row of each move that of its target is joined, so that one test of the move's row tells whether both let the move pass.
 pub fn join(table: &Table, rules: &mut [u8; RULES])
-    requires { (length rules.old ≡ 560) }
     ensures { JoinedRows (automaton_of table.now.bytes) (length (automaton_of table.now.bytes).moves) rules.old rules.new }
 {
     let moves = table.moves();
     for e in 0..moves {
-        join_row(
-            rules,
-            GUARDS + e,
-            table.target(e),
-            table.resets(e),
-        );
+        join_row(rules, GUARDS + e, table.target(e), table.resets(e));
     }
 }
 
 // Joins the target's row to one, timer by timer. The byte names the timers that are reset.
 fn join_row(rules: &mut [u8; RULES], row: usize, target: usize, resets: u8)
-    requires { (length rules.old ≡ 560) × (target < row) × (row < 80) }
+    requires { (target < row) × (row < 80) }
     ensures { JoinedRow resets row target 3 rules.old rules.new }
 {
     for timer in 0..MOST_TIMERS {
@@ -61,7 +55,7 @@ fn join_row(rules: &mut [u8; RULES], row: usize, target: usize, resets: u8)
 
 // The windows of each mode's row end above the ceilings, so that one test of the row tells whether a delay is allowed.
 pub fn cap(table: &Table, rules: &mut [u8; RULES], modes: usize)
-    requires { (length rules.old ≡ 560) × (modes ≤ 16) }
+    requires { (modes ≤ 16) }
     ensures { CappedRows (automaton_of table.now.bytes).ceilings modes rules.old rules.new }
 {
     let ceilings = table.ceilings();
@@ -72,7 +66,7 @@ pub fn cap(table: &Table, rules: &mut [u8; RULES], modes: usize)
 
 // Ends a row's windows above the ceilings, timer by timer.
 fn cap_row(rules: &mut [u8; RULES], row: usize, ceilings: [u8; MOST_TIMERS])
-    requires { (length rules.old ≡ 560) × (row < 80) × ((i : ℕ) → get_or ceilings i 0 ≤ 15) }
+    requires { (row < 80) × ((i : ℕ) → get_or ceilings i 0 ≤ 15) }
     ensures { CappedRow ceilings row 3 rules.old rules.new }
 {
     for timer in 0..MOST_TIMERS {
@@ -83,23 +77,19 @@ fn cap_row(rules: &mut [u8; RULES], row: usize, ceilings: [u8; MOST_TIMERS])
 
 // Six bytes of a table.
 fn conditions(table: &[u8; SIZE], at: usize) -> [u8; ROW]
-    requires { (length table.now ≡ 904) × (at + 6 ≤ 904) }
+    requires { (at + 6 ≤ 904) }
     ensures { result ≡ take 6 (drop at table.now) }
 {
     let mut bytes = [0; ROW];
-    for i in 0..ROW {
-        bytes[i] = table[at + i];
-    }
+    bytes.copy_from_slice(&table[at..at + ROW]);
     bytes
 }
 
 // Writes a row.
 fn put(rules: &mut [u8; RULES], row: usize, bytes: [u8; ROW])
-    requires { (length rules.old ≡ 560) × (row < 80) }
+    requires { (row < 80) }
     ensures { Wrote (λ i. get_or bytes i 0) (6 * row) 6 rules.old rules.new }
 {
     let at = 2 * window(row, 0);
-    for i in 0..ROW {
-        rules[at + i] = bytes[i];
-    }
+    rules[at..at + ROW].copy_from_slice(&bytes);
 }

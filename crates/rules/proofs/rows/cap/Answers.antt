@@ -17,14 +17,14 @@ entries c x = ap (λ (l : List ℕ). get_or l x 0) c.ceilings-ceilings.ensures �
 small : (c : goal.After-ceilings-ceilings) → (x : ℕ) → get_or c.ceilings-ceilings.result x 0 ≤ 15
 small c x =
     let cs = (automaton_of c.args.table.now.bytes).ceilings in
-    omega (arith, entries c x, get_or-all (λ k. k ≤ 15) cs (λ k m. (c.requires.0.range.ceilings-range k m).1) (omega arith) x)
+    omega (arith, entries c x, get_or-all (λ k. k ≤ 15) cs (λ k m. (c.args.table.now.is_table.range.ceilings-range k m).1) (omega arith) x)
 
 pub loop-mode-init : goal.loop-mode-init
 loop-mode-init c = (omega arith, caps-none _ _)
 
 pub cap_row-requires : goal.cap_row-requires
 cap_row-requires c =
-    (c.loop-mode.invariant.1.size ∙ c.requires.1, omega arith, small c.before.before.before)
+    (omega arith, small c.before.before.before)
 
 pub loop-mode-preserved : goal.loop-mode-preserved
 loop-mode-preserved c = (

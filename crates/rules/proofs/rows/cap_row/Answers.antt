@@ -9,7 +9,7 @@ pub loop-timer-init : goal.loop-timer-init
 loop-timer-init c = (omega arith, cap-none _ _ _)
 
 pub capped-requires : goal.capped-requires
-capped-requires c = c.requires.2 c.loop-timer.timer
+capped-requires c = c.requires.1 c.loop-timer.timer
 
 pub loop-timer-preserved : goal.loop-timer-preserved
 loop-timer-preserved c =

@@ -13,7 +13,7 @@ loop-i-init c = (omega arith, filled_none _ _ _ _ _)
 
 -- The record of a turn is within the table.
 inside : (c : goal.In-loop-i) → c.args.at + c.args.stride * c.loop-i.i + 6 ≤ 904
-inside c = c.requires.4 c.loop-i.i c.loop-i-test.true
+inside c = c.requires.2 c.loop-i.i c.loop-i-test.true
 
 pub overflow_mul-record : goal.overflow_mul-record
 overflow_mul-record c = omega (arith, inside c)
@@ -23,12 +23,6 @@ overflow_cast-record-in-loop-i-2 c = omega (arith, inside c)
 
 pub overflow_add-record : goal.overflow_add-record
 overflow_add-record c = omega (arith, inside c)
-
-pub conditions-requires : goal.conditions-requires
-conditions-requires c = (c.requires.0, inside c.before)
-
-pub put-requires : goal.put-requires
-put-requires c = (c.loop-i.invariant.1.size ∙ c.requires.1, omega arith)
 
 pub loop-i-preserved : goal.loop-i-preserved
 loop-i-preserved c =

@@ -17,25 +17,24 @@ there c = omega (arith, c.moves-moves.ensures)
 target-few : (c : After-target) → c.target.result < 16
 target-few c =
     let t = c.args.table.now.bytes in
-    omega (arith, c.target.ensures, target_below t c.requires.0 c.loop-e.e (there c.before.before), modes-few t c.requires.0)
+    omega (arith, c.target.ensures, target_below t c.args.table.now.is_table c.loop-e.e (there c.before.before), modes-few t c.args.table.now.is_table)
 
 pub loop-e-init : goal.loop-e-init
 loop-e-init c = (omega arith, rows_none _ _)
 
 pub overflow_add-e : goal.overflow_add-e
-overflow_add-e c = omega (arith, there (goal.at.overflow_add-e c).In-loop-e, moves-few c.args.table.now.bytes c.requires.0)
+overflow_add-e c = omega (arith, there (goal.at.overflow_add-e c).In-loop-e, moves-few c.args.table.now.bytes c.args.table.now.is_table)
 
 pub target-requires : goal.target-requires
-target-requires c = (c.requires.0, there (goal.at.target-requires c).In-loop-e)
+target-requires c = there (goal.at.target-requires c).In-loop-e
 
 pub resets-requires : goal.resets-requires
-resets-requires c = (c.requires.0, there (goal.at.resets-requires c).In-loop-e)
+resets-requires c = there (goal.at.resets-requires c).In-loop-e
 
 pub join_row-requires : goal.join_row-requires
 join_row-requires c = (
-  c.loop-e.invariant.1.size ∙ c.requires.1,
   omega (arith, target-few (goal.at.join_row-requires c).After-target),
-  omega (arith, there (goal.at.join_row-requires c).In-loop-e, moves-few c.args.table.now.bytes c.requires.0),
+  omega (arith, there (goal.at.join_row-requires c).In-loop-e, moves-few c.args.table.now.bytes c.args.table.now.is_table),
 )
 
 pub loop-e-preserved : goal.loop-e-preserved

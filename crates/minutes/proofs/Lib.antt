@@ -4,6 +4,5 @@ pub mod Waiting
 pub mod Offers
 pub mod MoveRelaxing
 pub mod PairRelaxing
--- From the first words to those that are left.
+-- What a search asks of the graph.
 pub mod Settling
-pub mod Searching

@@ -1,29 +1,49 @@
--- The loop that settles the states of a table: its turns by the structs of the code.
+-- The graph of a table's states as a search goes through it: what its trait asks, by the structs of the code.
 -- Assumes nothing.
-use mathlib.Core.Path.{◌≡◌, sym, ◌∙◌}
+use mathlib.Core.Path.{◌≡◌, refl, sym, ap, subst, ◌∙◌}
 use mathlib.Core.Logic.{◌≢◌, ◌↔◌}
-use mathlib.Core.List.{List}
-use Prim.Native.Nat.{ℕ, ◌+◌, ◌*◌, ◌/◌, ◌%◌, ◌<◌}
+use mathlib.Core.List.Memᴰ
+use mathlib.Core.List.{List, [], ◌∷◌}
+use Prim.Native.Nat.{ℕ, ◌+◌, ◌*◌, ◌/◌, ◌≤◌, ◌<◌}
+use native.Mathlib.Nat.{mul-le-mul, mul-le-mul_right}
 use native.Mathlib.Omega.{arith}
 use borrow.Author.Tests.{eqb-true, eq-eqb}
 use lib.ListN.{length}
 use Rattle.semantics.specs.NodeCount.{cell_count}
-use Rattle.semantics.specs.Graph.Path.{Target, charge_at, steps_at}
+use Rattle.semantics.specs.Timetable.{state_count}
+use Rattle.semantics.specs.Graph.Path.{Target, infinity}
 use Rattle.semantics.specs.Graph.MinuteGraph.{minute_graph}
-use Rattle.table.specs.Held.{automaton_of}
-use Rattle.queue.specs.Queue.{slot_at, SettleReady, SettleDone}
-use Rattle.search.specs.Exploring.{Relaxes}
-use Rattle.search.proofs.Turning as turning
+use Rattle.semantics.specs.Timetables.Edges.{minute-closed}
+use Rattle.table.specs.Fields.{most_price}
+use Rattle.table.specs.Held.{automaton_of, IsTable}
+use Rattle.table.specs.Theorems.Access.{table-proper}
+use Rattle.queue.specs.Laws.Lows.{lows-charge, lows-steps}
+use Rattle.space.specs.Laws.Shares.{some-modes}
+use Rattle.near.specs.declared.Cost.{Cost as CostHeld}
+use Rattle.search.specs.Exploring.{InHand, Relaxes}
+use Rattle.search.specs.Laws.FirstNode.{first-hand}
+use Rattle.search.specs.Searches.{Searchable, VisitReady, AnyEdge}
 use Rattle.states.specs.declared.States.{States}
 use Rattle.states.specs.declared.State.{State as StateHeld}
-use Rattle.minutes.specs.declared.waits.Source.{Source}
+use Rattle.states.specs.Laws.Bounds.{count-some}
 use Rattle.states.specs.States.{StatesReady, StandsAt}
+use Rattle.minutes.specs.declared.waits.Source.{Source}
 use Rattle.minutes.specs.Edges.{Setting, graph_of, rooted_of, state_of, AnyPair, Standing, PairsReady, PairsDone}
-use Rattle.minutes.specs.Finding.{FoundGoal}
+use Rattle.minutes.proofs.Offers.{pairs-light}
 
--- A turn of the loop over a table's graph.
-abbrev pub Turn : List ℕ → States → ℕ → List ℕ → List ℕ → ℕ → Type 0
-Turn t s goal ws₀ ws node = turning.Turn (graph_of t goal) 0 s.count ws₀ ws node
+-- Timer 0 has two values at least, so there are two states at least.
+states-two : (t : List ℕ) → IsTable t → 2 ≤ state_count (automaton_of t)
+unfolding state_count
+states-two t h = go (automaton_of t).ceilings refl
+  where
+    go : (cs : List ℕ) → (automaton_of t).ceilings ≡ cs → 2 ≤ length (automaton_of t).modes * cell_count (automaton_of t).ceilings
+    go [] e = absurd (omega (arith, (table-proper t h).some-timer, ap length e))
+    go (c ∷ cs) e =
+        let low : 1 ≤ c = (h.range.ceilings-range c (rw e (Memᴰ.head refl))).0 in
+        let two : 1 * 2 ≤ cell_count cs * (c + 1) = (let more : 2 ≤ c + 1 = omega arith in mul-le-mul (count-some cs) more) in
+        let all : 1 * 2 ≤ length (automaton_of t).modes * cell_count (automaton_of t).ceilings =
+        (let more : 2 ≤ cell_count (automaton_of t).ceilings = rw e (omega (arith, two)) in mul-le-mul (some-modes t h) more) in
+        omega (arith, all)
 
 -- The targets are the states of the goal.
 target-mode : (t : List ℕ) (goal v : ℕ) → Target (graph_of t goal) v ↔ ((state_of t v).mode ≡ goal)
@@ -32,62 +52,63 @@ target-mode t goal v =
     let m = v / cell_count (automaton_of t).ceilings in
     (λ q. eqb-true m goal q, λ q. eq-eqb m goal q)
 
--- The states of a table can be found by their numbers.
-pub states-ready : {t rs : List ℕ} {s : States} → Setting t rs s → StatesReady s
-states-ready {t} z = record { table = t; is-table = z.is-table; is-states = z.is-states }
+module _ {t rs : List ℕ} {s : States} (set : Setting t rs s) where
+  -- The states of a table can be found by their numbers.
+  pub states-ready : StatesReady s
+  states-ready = record { table = t; is-table = set.is-table; is-states = set.is-states }
+
+  module _ (goal : ℕ) where
+    -- There are as many as the struct says.
+    pub size : s.count ≡ (graph_of t goal).nodes
+    unfolding minute_graph
+    size = set.is-states.count-is
+
+    pub goal-searchable : Searchable (rooted_of t goal)
+    goal-searchable =
+        let two = states-two t set.is-table in
+        let counted = set.is-states.count-is in
+        record {
+          two = omega (arith, two, counted, size);
+          few = omega (arith, set.few, size);
+          there = omega (arith, two, counted, size);
+          closed = minute-closed (automaton_of t) (table-proper t set.is-table) goal;
+          weight = 16 * most_price;
+          light = pairs-light set goal;
+          small = omega (arith, mul-le-mul_right {m = (graph_of t goal).nodes} {n = 4096} (16 * most_price) (omega (arith, size, set.few)));
+        }
 
 -- The struct that is made of a state and its cost.
-abbrev pub source_of : StateHeld → ℕ → ℕ → Source
-source_of x charge pairs = record { at = x; charge = charge; pairs = pairs + 1 }
+abbrev pub source_of : StateHeld → CostHeld → Source
+source_of x c = record { at = x; charge = c.charge; pairs = c.steps + 1 }
 
--- The node is one, and its state is known.
-pub record AtNode (t rs : List ℕ) (s : States) (goal : ℕ) (ws₀ ws : List ℕ) (node : ℕ) (x : StateHeld) : Type 0 where
-  pub setting : Setting t rs s
-  pub turn : Turn t s goal ws₀ ws node
+-- The node is next, and its state is known.
+module _ {t rs : List ℕ} {s : States} (set : Setting t rs s) {goal node : ℕ} {c : CostHeld} {ws : List ℕ} (k : VisitReady (rooted_of t goal) node c ws) where
   pub there : node < s.count
-  pub stands : StandsAt (automaton_of t) (state_of t node) x
+  there = omega (arith, k.there, size set goal)
 
-module _ {t rs : List ℕ} {s : States} {goal : ℕ} {ws₀ ws : List ℕ} {node : ℕ} {x : StateHeld} (k : AtNode t rs s goal ws₀ ws node x) where
-  -- There are words for it.
-  pub node-room : 2 * node + 1 < length ws
-  node-room = turning.node-room k.turn k.there
+  pub steps-few : c.steps < 65536
+  steps-few = omega (arith, k.steps-are)
 
-  -- Its cost is read.
-  module _ {charge pairs : ℕ} (charge-is : charge ≡ charge_at ws node) (pairs-are : pairs ≡ steps_at ws node % 65536) where
-    -- It is of the goal.
-    pub turn-goal : x.mode ≡ goal → FoundGoal t s goal ws₀ ws (record { charge = charge; steps = pairs })
-    turn-goal is =
-        turning.turn-target k.turn k.there charge-is pairs-are ((target-mode t goal node).1 (sym k.stands.mode-is ∙ is))
+  module _ {x : StateHeld} (stands : StandsAt (automaton_of t) (state_of t node) x) where
+    pub is-target : (x.mode ≡ goal) ↔ Target (graph_of t goal) node
+    is-target =
+        let by = target-mode t goal node in
+        (λ q. by.1 (sym stands.mode-is ∙ q), λ q. stands.mode-is ∙ by.0 q)
 
-    -- It is not: its edges are in hand.
+    -- It is not of the goal: its edges are in hand.
     module _ (away : x.mode ≢ goal) where
-      standing : Standing t s (source_of x charge pairs) ws goal node
+      standing : Standing t s (source_of x c) ws goal node
       standing = record {
-        hand = turning.turn-hand k.turn k.there (λ q. away (k.stands.mode-is ∙ (target-mode t goal node).0 q));
-        stands = k.stands;
-        charge-is = turning.own-charge k.turn k.there charge-is pairs-are;
-        pairs-are = omega (arith, turning.own-steps k.turn k.there charge-is pairs-are);
+        hand = subst (λ (n : ℕ). InHand (rooted_of t goal) n node ws) (sym (size set goal))
+            (first-hand k.between node k.there k.first (λ q. away (is-target.1 q)));
+        stands = stands;
+        charge-is = k.charge-is ∙ sym (lows-charge s.count ws node);
+        pairs-are = omega (arith, k.steps-are, lows-steps s.count ws node there);
       }
 
-      pub pairs-ready : PairsReady t rs s (source_of x charge pairs) ws
-      pairs-ready = record { setting = k.setting; goal = goal; node = node; standing = standing }
+      pub pairs-ready : PairsReady t rs s (source_of x c) ws
+      pairs-ready = record { setting = set; goal = goal; node = node; standing = standing }
 
       -- They were relaxed.
-      module _ {ws₁ : List ℕ} (done : PairsDone AnyPair t s (source_of x charge pairs) ws ws₁) where
-        relaxed : Relaxes (rooted_of t goal) s.count node AnyPair ws ws₁
-        relaxed = done goal node standing
-
-        pub settle-ready : SettleReady s.count node ws₁
-        settle-ready = turning.settle-ready k.turn k.there (λ e l. tt) relaxed
-
-        -- And it was settled.
-        module _ {ws₂ : List ℕ} (settled : SettleDone s.count node ws₁ ws₂) where
-          pub next-room : 3 < length ws₂
-          next-room = turning.next-room k.turn k.there (λ e l. tt) relaxed settled
-
-          module _ (next : ℕ) (is : next ≡ slot_at ws₂ 1) where
-            pub turn-next : Turn t s goal ws₀ ws₂ next
-            turn-next = turning.turn-next k.turn k.there (λ e l. tt) relaxed settled next is
-
-            pub turn-less : turning.turns_left s.count next ws₂ < turning.turns_left s.count node ws
-            turn-less = turning.turn-less k.turn k.there (λ e l. tt) relaxed settled next is
+      pub pairs-visited : {ws' : List ℕ} → PairsDone AnyPair t s (source_of x c) ws ws' → Relaxes (rooted_of t goal) (graph_of t goal).nodes node AnyEdge ws ws'
+      pairs-visited {ws'} done = subst (λ (n : ℕ). Relaxes (rooted_of t goal) n node AnyEdge ws ws') (size set goal) (done goal node standing)

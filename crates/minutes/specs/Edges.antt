@@ -13,17 +13,9 @@ use Rattle.search.specs.Exploring.{Rooted, InHand, Relaxes}
 use Rattle.states.specs.declared.States.{States}
 use Rattle.minutes.specs.declared.waits.Source.{Source}
 use Rattle.states.specs.States.{IsStates, StandsAt}
+use Rattle.minutes.specs.declared.graph.MinuteGraph.{MinuteGraph}
 use Rattle.minutes.specs.Waits.{Room}
-
--- A table that is searched. There are at most 4,096 states, so that no charge overflows.
-abbrev pub most_states : ℕ
-most_states = 4096
-
-pub record Setting (t rs : List ℕ) (s : States) : Type 0 where
-  pub is-table : IsTable t
-  pub is-rules : IsRules t rs
-  pub is-states : IsStates t s
-  pub few : s.count ≤ most_states
+pub use Rattle.minutes.specs.Settings.{Setting}
 
 -- The graph of a table for a goal. Timetables begin at node 0.
 abbrev pub graph_of : List ℕ → ℕ → Graph
@@ -91,3 +83,19 @@ pub record MovesReady (t rs : List ℕ) (s : States) (x : Source) (ws : List ℕ
 abbrev pub MovesDone : List ℕ → States → Source → List ℕ → List ℕ → Type 0
 MovesDone t s x ws ws' =
     (goal u d : ℕ) → Waited t s x ws goal u d → Relaxes (rooted_of t goal) s.count u (OfMinute d) ws ws'
+
+-- The same by the struct that has the table, its rules and its states.
+abbrev pub PairsReadyIn : MinuteGraph → Source → List ℕ → Type 0
+PairsReadyIn g = PairsReady g.table.now.bytes g.rules.now g.states
+
+abbrev pub PairsDoneIn : (Edge → Type 0) → MinuteGraph → Source → List ℕ → List ℕ → Type 0
+PairsDoneIn Fits g = PairsDone Fits g.table.now.bytes g.states
+
+abbrev pub MinuteReadyIn : MinuteGraph → Source → ℕ → List ℕ → Type 0
+MinuteReadyIn g = MinuteReady g.table.now.bytes g.rules.now g.states
+
+abbrev pub MovesReadyIn : MinuteGraph → Source → List ℕ → Type 0
+MovesReadyIn g = MovesReady g.table.now.bytes g.rules.now g.states
+
+abbrev pub MovesDoneIn : MinuteGraph → Source → List ℕ → List ℕ → Type 0
+MovesDoneIn g = MovesDone g.table.now.bytes g.states

@@ -1,6 +1,6 @@
 -- What the contracts of the crate mean.
+pub mod Settings
 pub mod Waits
 pub mod Edges
-pub mod Finding
 -- What follows from them.
 pub mod Laws

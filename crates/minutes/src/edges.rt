@@ -1,76 +1,50 @@
 // The edges of a state, relaxed one after another: each is a pair, some minutes and then a move.
-ghost use Rattle.minutes.specs.Edges.{AnyPair, OfMinute, PairsReady, PairsDone, MinuteReady, MovesReady, MovesDone};
+ghost use Rattle.minutes.specs.Edges.{AnyPair, OfMinute, PairsReadyIn, PairsDoneIn, MinuteReadyIn, MovesReadyIn, MovesDoneIn};
 
+use crate::graph::MinuteGraph;
 use crate::waits;
 use crate::waits::Source;
-use rules::RULES;
 use space::moves;
-use states::States;
-use table::Table;
 
 // Relaxes the pairs of a state. No wait goes beyond the ceiling of timer 0. A cost of as many pairs as there are states is not offered: no least cost has
 // so many.
-pub fn relax_pairs(
-    words: &mut [u32],
-    states: States,
-    table: &Table,
-    rules: &[u8; RULES],
-    from: Source,
-)
-    requires { PairsReady table.now.bytes rules.now states from words.old }
-    ensures { PairsDone AnyPair table.now.bytes states from words.old words.new }
+pub fn relax_pairs(words: &mut [u32], minutes: &MinuteGraph, from: Source)
+    requires { PairsReadyIn minutes.now from words.old }
+    ensures { PairsDoneIn AnyPair minutes.now from words.old words.new }
 {
-    if states.count <= from.pairs as usize {
+    if minutes.states.count <= from.pairs as usize {
         return;
     }
-    let ceilings = states.ceilings;
-    let at = from.at;
-    let values = at.values;
-    let longest = ceilings[0] - values[0];
-    let mut minutes: u8 = 0;
-    while minutes <= longest {
-        relax_minute(words, states, table, rules, from, minutes);
-        minutes += 1;
+    let longest = minutes.states.ceilings[0] - from.at.values[0];
+    for wait in 0..=longest {
+        relax_minute(words, minutes, from, wait);
     }
 }
 
 // Those that wait so many minutes, if the mode allows that.
-fn relax_minute(
-    words: &mut [u32],
-    states: States,
-    table: &Table,
-    rules: &[u8; RULES],
-    from: Source,
-    minutes: u8,
-)
-    requires { MinuteReady table.now.bytes rules.now states from minutes words.old }
-    ensures { PairsDone (OfMinute minutes) table.now.bytes states from words.old words.new }
+fn relax_minute(words: &mut [u32], minutes: &MinuteGraph, from: Source, wait: u8)
+    requires { MinuteReadyIn minutes.now from wait words.old }
+    ensures { PairsDoneIn (OfMinute wait) minutes.now from words.old words.new }
 {
-    let later = waits::wait(states, table, from, minutes);
-    if waits::stays(rules, later.at) {
-        relax_moves(words, states, table, rules, later);
+    let later = waits::wait(minutes, from, wait);
+    if waits::stays(minutes.rules, later.at) {
+        relax_moves(words, minutes, later);
     }
 }
 
 // The moves of a state in which some minutes were waited.
-fn relax_moves(
-    words: &mut [u32],
-    states: States,
-    table: &Table,
-    rules: &[u8; RULES],
-    from: Source,
-)
-    requires { MovesReady table.now.bytes rules.now states from words.old }
-    ensures { MovesDone table.now.bytes states from words.old words.new }
+fn relax_moves(words: &mut [u32], minutes: &MinuteGraph, from: Source)
+    requires { MovesReadyIn minutes.now from words.old }
+    ensures { MovesDoneIn minutes.now from words.old words.new }
 {
-    let at = from.at;
-    let values = at.values;
+    let states = minutes.states;
+    let values = from.at.values;
     let halves = states::halves(values);
-    let mut e = moves::next_move(rules, halves, rules::first(rules, at.mode));
-    while e < rules::NONE {
-        let to = states::lead(states, table, values, e);
-        let charge = table.price(e) as u32 + from.charge;
+    let mut next = moves::next_move(minutes.rules, halves, rules::first(minutes.rules, from.at.mode));
+    while let Some(e) = next {
+        let to = states::lead(states, minutes.table, values, e);
+        let charge = minutes.table.price(e) as u32 + from.charge;
         queue::relax(words, states.count, to, charge, from.pairs);
-        e = moves::next_move(rules, halves, rules::after(rules, e));
+        next = moves::next_move(minutes.rules, halves, rules::after(minutes.rules, e));
     }
 }

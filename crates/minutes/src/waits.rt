@@ -1,9 +1,9 @@
 // Waiting in a state: the state some minutes later, and whether its mode allows it.
 ghost use Rattle.minutes.specs.Waits.{WaitReady, WaitDone, StaysReady, StaysDone};
 
+use crate::graph::MinuteGraph;
 use rules::RULES;
-use states::{State, States};
-use table::Table;
+use states::State;
 
 // A state, what has been charged there, and the pairs with which its edges arrive.
 #[derive(Clone, Copy)]
@@ -14,17 +14,16 @@ pub struct Source {
 }
 
 // A state some minutes later, and what has been charged then.
-pub fn wait(states: States, table: &Table, from: Source, minutes: u8) -> Source
-    requires { WaitReady table.now.bytes states from minutes }
-    ensures { WaitDone table.now.bytes from minutes result }
+pub fn wait(graph: &MinuteGraph, from: Source, minutes: u8) -> Source
+    requires { WaitReady graph.now.table.now.bytes graph.now.states from minutes }
+    ensures { WaitDone graph.now.table.now.bytes from minutes result }
 {
     let at = from.at;
-    let values = at.values;
-    let rate = table.rate(at.mode) as u32;
+    let rate = graph.table.rate(at.mode) as u32;
     Source {
         at: State {
             mode: at.mode,
-            values: states::waited(values, states.timers, minutes),
+            values: states::waited(at.values, graph.states.timers, minutes),
         },
         charge: minutes as u32 * rate + from.charge,
         pairs: from.pairs,
@@ -36,6 +35,5 @@ pub fn stays(rules: &[u8; RULES], at: State) -> bool
     requires { StaysReady rules.now at }
     ensures { StaysDone rules.now at result }
 {
-    let values = at.values;
-    rules::all_inside(rules, at.mode, states::halves(values))
+    rules::all_inside(rules, at.mode, states::halves(at.values))
 }

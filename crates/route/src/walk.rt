@@ -3,10 +3,8 @@ ghost use Rattle.std.specs.Prelude.{◌≡◌, ◌/◌, ◌<◌, ◌≤◌};
 ghost use Rattle.route.specs.Walk.{lowest, PruneRoom, Pruned, AdvanceReady, Advanced, BacktrackReady, Backtracked, WalkReady, WalkDone};
 
 use near::INFINITY;
-use rules::RULES;
-use space::Space;
-use steps::{NO_STEP, Next, Stand};
-use table::Table;
+use space::graph::CornerGraph;
+use steps::{Next, Stand};
 
 // A second word from here on points back: it holds the first node and the marked corners of the place before. No node has as many steps.
 const BACK: u32 = 0x8000_0000;
@@ -38,14 +36,6 @@ fn prune(words: &mut [u32], first: usize, set: u32)
             words[2 * (first + j)] = INFINITY;
         }
     }
-}
-
-// The mode of a node, of which each mode has so many. The unit's core divides in 32 bits.
-fn mode_of(node: usize, block: usize) -> usize
-    requires { (node < 65536) × (1 ≤ block) × (block < 65536) }
-    ensures { result ≡ node / block }
-{
-    (node as u32 / block as u32) as usize
 }
 
 // Takes the step. The place at hand is noted at the next one's lowest marked corner, whose steps are known there: they are its depth.
@@ -81,27 +71,20 @@ fn backtrack(words: &mut [u32], stand: Stand, byte: u8) -> Stand
 
 // "the route is one with fewest steps; among those the first in byte order": goes on by the least byte along whose step a tight edge leads, and a step
 // back where none does.
-pub fn walk(
-    words: &mut [u32],
-    route: &mut [u8],
-    space: Space,
-    table: &Table,
-    rules: &[u8; RULES],
-)
-    requires { WalkReady table.now.bytes rules.now space words.old route.old }
-    ensures { WalkDone table.now.bytes words.old route.old words.new route.new }
+pub fn walk(words: &mut [u32], route: &mut [u8], corners: &CornerGraph)
+    requires { WalkReady corners.now.table.now.bytes corners.now.rules.now corners.now.space words.old route.old }
+    ensures { WalkDone corners.now.table.now.bytes words.old route.old words.new route.new }
 {
-    let goal = table.goal();
+    let goal = corners.table.goal();
     let mut stand = Stand {
-        first: space::start_node(space),
+        first: space::start_node(corners.space),
         set: 1,
         steps: 0,
         byte: LEAST_BYTE,
     };
-    while mode_of(stand.first, space.block) != goal {
-        let next = steps::next_step(words, space, table, rules, stand);
+    while space::mode_of(stand.first, corners.space.block) != goal {
         let depth = stand.steps as usize;
-        if next.byte < NO_STEP {
+        if let Some(next) = steps::next_step(words, corners, stand) {
             route[depth] = next.byte as u8;
             stand = advance(words, stand, next);
         } else {

@@ -9,9 +9,7 @@ pub mod MoveRelaxing
 pub mod AllEdges
 -- From the first words to those that are left.
 pub mod Seeding
-pub mod FirstNode
 pub mod Turning
 pub mod Settling
 pub mod Keeping
 pub mod Nearing
-pub mod Searching

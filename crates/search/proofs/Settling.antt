@@ -24,7 +24,7 @@ use Rattle.search.specs.Exploring.{InHand, Relaxes}
 use Rattle.search.specs.Searches.{Searchable, VisitReady, AnyEdge, Visited}
 use Rattle.search.specs.Edges.{IsMove, IsWait, IsAny, rooted_of, Holding, EdgesReady, EdgesDone}
 use Rattle.search.specs.Laws.Goal.{goal-closed, goal-light, goal-small}
-use Rattle.search.proofs.FirstNode.{first-hand}
+use Rattle.search.specs.Laws.FirstNode.{first-hand}
 
 module _ {t rs : List ℕ} {s : Space} (set : Setting t rs s) (goal : ℕ) where
   -- There are as many nodes as the struct says.

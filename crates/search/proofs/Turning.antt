@@ -27,7 +27,7 @@ use Rattle.near.specs.declared.Cost.{Cost as CostHeld}
 use Rattle.near.specs.Near.{best_entry}
 use Rattle.search.specs.Exploring.{Rooted, costs_in, Between, Relaxes, hand-settles, relaxes-done}
 use Rattle.search.specs.Searches.{VisitReady, AnyEdge, FindReady, FoundTarget}
-use Rattle.search.proofs.FirstNode.{none-explored, none-best, goal-explored, goal-within, goal-best}
+use Rattle.search.specs.Laws.FirstNode.{none-explored, none-best, goal-explored, goal-within, goal-best}
 
 -- How many nodes are still to be settled, if `node` is the next one.
 unfoldable pub turns_left : ℕ → ℕ → List ℕ → ℕ

@@ -1,3 +1,4 @@
 -- What a caller may conclude from the contracts.
 pub mod Answers
 pub mod Goal
+pub mod FirstNode

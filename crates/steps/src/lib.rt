@@ -13,6 +13,7 @@ ghost use Rattle.space.specs.Images.{ImageReady, Images, ImageDone};
 use regions::nodes::NodeRegion;
 use regions::{Region, nodes};
 use rules::RULES;
+use space::graph::CornerGraph;
 use space::{Space, moves};
 use table::Table;
 
@@ -38,9 +39,6 @@ pub struct Next {
 const DELAY: usize = 64;
 
 const LINGER: usize = 65;
-
-// No step.
-pub const NO_STEP: usize = 66;
 
 // Whether a corner is in the set.
 pub fn marked(set: u32, corner: usize) -> bool
@@ -139,42 +137,34 @@ fn led_by_delay(
     next
 }
 
-// The first move of a mode, from the byte on, that is not passed over, or NONE.
+// The first move of a mode, from the byte on, that is not passed over.
 pub fn move_from(
     rules: &[u8; RULES],
     halves: [u8; Region::MOST_TIMERS],
     mode: usize,
     byte: usize,
-) -> usize
+) -> Option<usize>
     requires { FromReady rules.now mode byte }
     ensures { FromDone rules.now halves mode byte result }
 {
-    let mut e = rules::first(rules, mode);
-    while e < byte {
-        e = rules::after(rules, e);
+    let mut next = rules::first(rules, mode);
+    while let Some(e) = next {
+        if byte <= e {
+            break;
+        }
+        next = rules::after(rules, e);
     }
-    moves::next_move(rules, halves, e)
-}
-
-// What is found where nothing leads on.
-fn nowhere() -> Next
-    ensures { result ≡ no_step }
-{
-    Next {
-        byte: NO_STEP,
-        first: 0,
-        set: 0,
-    }
+    moves::next_move(rules, halves, next)
 }
 
 // A step that was tried, if it marks a corner.
-fn found(byte: usize, first: usize, set: u32) -> Next
+fn found(byte: usize, first: usize, set: u32) -> Option<Next>
     ensures { IsFound byte first set result }
 {
     if set == 0 {
-        return nowhere();
+        return None;
     }
-    Next { byte, first, set }
+    Some(Next { byte, first, set })
 }
 
 // The map of resets: where each corner of the region before them goes. The region after them says so by its prices.
@@ -216,144 +206,88 @@ fn image(images: &mut [u32; 8], space: Space, at: NodeRegion, resets: u8) -> u32
 }
 
 // Tries the step of a move that is allowed. The image is that of its reset byte: the target mode's nodes come so many blocks behind those of mode 0.
-fn along_move(
-    words: &[u32],
-    space: Space,
-    table: &Table,
-    stand: Stand,
-    image: u32,
-    e: usize,
-) -> Next
-    requires { AlongReady table.now.bytes space stand words.now image e }
-    ensures { TriedOne table.now.bytes space stand words.now e result }
+fn along_move(words: &[u32], corners: &CornerGraph, stand: Stand, image: u32, e: usize) -> Option<Next>
+    requires { AlongReady corners.now.table.now.bytes corners.now.space stand words.now image e }
+    ensures { TriedOne corners.now.table.now.bytes corners.now.space stand words.now e result }
 {
-    let target = table.target(e) as u32;
+    let target = corners.table.target(e) as u32;
     // The unit's core multiplies in 32 bits.
-    let block = space.block as u32;
+    let block = corners.space.block as u32;
     let to = (image % 65536 + target * block) as usize;
-    let set = led_by_move(
-        words,
-        stand,
-        image / 65536,
-        to,
-        table.price(e) as u32,
-    );
-    Next {
-        byte: e,
-        first: to,
-        set,
-    }
+    let price = corners.table.price(e) as u32;
+    found(e, to, led_by_move(words, stand, image / 65536, to, price))
 }
 
 // Tries the moves.
-fn by_move(
-    words: &[u32],
-    space: Space,
-    table: &Table,
-    rules: &[u8; RULES],
-    at: NodeRegion,
-    stand: Stand,
-) -> Next
-    requires { StepReady table.now.bytes space at stand words.now × IsRules table.now.bytes rules.now }
-    ensures { Tried table.now.bytes space stand words.now (MoveByte stand) result }
+fn by_move(words: &[u32], corners: &CornerGraph, at: NodeRegion, stand: Stand) -> Option<Next>
+    requires { StepReady corners.now.table.now.bytes corners.now.space at stand words.now × IsRules corners.now.table.now.bytes corners.now.rules.now }
+    ensures { Tried corners.now.table.now.bytes corners.now.space stand words.now (MoveByte stand) result }
 {
     if DELAY <= stand.byte {
-        return nowhere();
+        return None;
     }
-    let region = at.region;
-    let halves = region.halves();
+    let halves = at.region.halves();
     let mut images = [moves::NO_IMAGE; 8];
-    let mut e = move_from(rules, halves, at.mode, stand.byte);
-    while e < rules::NONE {
-        let by_resets = image(&mut images, space, at, table.resets(e));
-        let next = along_move(words, space, table, stand, by_resets, e);
-        if next.set != 0 {
-            return next;
+    let mut next = move_from(corners.rules, halves, at.mode, stand.byte);
+    while let Some(e) = next {
+        let by_resets = image(&mut images, corners.space, at, corners.table.resets(e));
+        let step = along_move(words, corners, stand, by_resets, e);
+        if step.is_some() {
+            return step;
         }
-        e = moves::next_move(rules, halves, rules::after(rules, e));
+        next = moves::next_move(corners.rules, halves, rules::after(corners.rules, e));
     }
-    nowhere()
+    None
 }
 
 // Tries the delay. The mode's row has its conditions and the ceilings.
-fn by_delay(
-    words: &[u32],
-    space: Space,
-    table: &Table,
-    rules: &[u8; RULES],
-    at: NodeRegion,
-    stand: Stand,
-) -> Next
-    requires { StepReady table.now.bytes space at stand words.now × IsRules table.now.bytes rules.now }
-    ensures { Tried table.now.bytes space stand words.now (OnlyByte 64 stand) result }
+fn by_delay(words: &[u32], corners: &CornerGraph, at: NodeRegion, stand: Stand) -> Option<Next>
+    requires { StepReady corners.now.table.now.bytes corners.now.space at stand words.now × IsRules corners.now.table.now.bytes corners.now.rules.now }
+    ensures { Tried corners.now.table.now.bytes corners.now.space stand words.now (OnlyByte 64 stand) result }
 {
     if DELAY < stand.byte {
-        return nowhere();
+        return None;
     }
-    let region = at.region;
-    let ceilings = space.ceilings;
-    let delayed = region.delay(0);
-    if !rules::all_inside(rules, at.mode, delayed.halves()) {
-        return nowhere();
+    let delayed = at.region.delay(0);
+    if !rules::all_inside(corners.rules, at.mode, delayed.halves()) {
+        return None;
     }
-    let to = nodes::node_of(at.mode, delayed, 0, ceilings);
-    let set = led_by_delay(
-        words,
-        stand,
-        delayed,
-        to,
-        region.top(),
-        table.rate(at.mode) as u32,
-    );
-    found(DELAY, to, set)
+    let to = nodes::node_of(at.mode, delayed, 0, corners.space.ceilings);
+    let rate = corners.table.rate(at.mode) as u32;
+    found(DELAY, to, led_by_delay(words, stand, delayed, to, at.region.top(), rate))
 }
 
 // Tries to linger. Only where r0 is empty, so that a delay takes a corner away, does it lead on, from corner 0 to the last.
-fn by_linger(words: &[u32], table: &Table, at: NodeRegion, stand: Stand) -> Next
+fn by_linger(words: &[u32], table: &Table, at: NodeRegion, stand: Stand) -> Option<Next>
     requires { LingerReady table.now.bytes at stand words.now }
     ensures { LingerTried table.now.bytes at stand words.now result }
 {
     if LINGER < stand.byte {
-        return nowhere();
+        return None;
     }
-    let region = at.region;
-    let delayed = region.delay(0);
-    let last = region.top();
+    let delayed = at.region.delay(0);
+    let last = at.region.top();
     if last <= delayed.top() {
-        return nowhere();
+        return None;
     }
-    let set = lead(
-        words,
-        stand,
-        0,
-        0,
-        at.first,
-        last,
-        table.rate(at.mode) as u32,
-    );
-    found(LINGER, at.first, set)
+    let rate = table.rate(at.mode) as u32;
+    found(LINGER, at.first, lead(words, stand, 0, 0, at.first, last, rate))
 }
 
-// The least byte, from the walk's on, along whose step a tight edge leads on; or NO_STEP.
-pub fn next_step(
-    words: &[u32],
-    space: Space,
-    table: &Table,
-    rules: &[u8; RULES],
-    stand: Stand,
-) -> Next
-    requires { StandReady table.now.bytes rules.now space stand words.now }
-    ensures { NextStep table.now.bytes space stand words.now result }
+// The step of the least byte, from the walk's on, along which a tight edge leads on.
+pub fn next_step(words: &[u32], corners: &CornerGraph, stand: Stand) -> Option<Next>
+    requires { StandReady corners.now.table.now.bytes corners.now.rules.now corners.now.space stand words.now }
+    ensures { NextStep corners.now.table.now.bytes corners.now.space stand words.now result }
 {
-    let ceilings = space.ceilings;
-    let at = nodes::region_at(space.timers, ceilings, stand.first);
-    let move_step = by_move(words, space, table, rules, at, stand);
-    if move_step.byte < NO_STEP {
-        return move_step;
+    let space = corners.space;
+    let at = nodes::region_at(space.timers, space.ceilings, stand.first);
+    let moved = by_move(words, corners, at, stand);
+    if moved.is_some() {
+        return moved;
     }
-    let delay_step = by_delay(words, space, table, rules, at, stand);
-    if delay_step.byte < NO_STEP {
-        return delay_step;
+    let delayed = by_delay(words, corners, at, stand);
+    if delayed.is_some() {
+        return delayed;
     }
-    by_linger(words, table, at, stand)
+    by_linger(words, corners.table, at, stand)
 }

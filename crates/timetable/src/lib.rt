@@ -2,83 +2,66 @@
 #![tactic(auto)]
 
 ghost use Rattle.std.specs.Prelude.{◌≡◌};
-ghost use Rattle.table.specs.Held.{automaton_of, IsTable};
+ghost use Rattle.table.specs.Held.{automaton_of};
+ghost use Rattle.timetable.specs.Answers.{told};
 ghost use Rattle.timetable.specs.Timetabled.{outcome, timetabled_table, timetabled};
 ghost use Rattle.timetable.specs.Promise.{KeepsTimetable};
 ghost use Rattle.timetable.specs.Found.{FindReady, ReadOff};
 
 mod walk;
 
-use near::INFINITY;
-use reader::Verdict;
+use minutes::ToGoal;
+use minutes::graph::MinuteGraph;
+use near::Cost;
 use rules::RULES;
-use search::Searched;
+use search::graph;
 use table::Table;
+use table::refusals::Refusal;
 
-// "12 for a table with < or >".
-const NOT_CLOSED: u8 = 12;
-
-// "Refusal 10 compares the bytes of all pairs with the route memory."
-const ROUTE_TOO_LONG: u8 = 10;
-
-// A refusal with the number of documents 01 and 02; no route; or a timetable with its charge and its number of pairs.
-#[derive(Clone, Copy)]
-pub enum Answer {
-    Refused(u8),
-    NoRoute,
-    Timetable(u32, usize),
-}
-
-// Gives the timetable of the table that the bytes are, with the memory lent for the search and for the pairs.
-pub fn timetable(bytes: &[u8], words: &mut [u32], route: &mut [u8]) -> Answer
-    ensures outcome { outcome result words.new route.new
+// Gives the timetable of the table that the bytes are, with the memory lent for the search and for the pairs: its charge and its number of pairs, which are
+// steps here, if there is one.
+pub fn timetable(bytes: &[u8], words: &mut [u32], route: &mut [u8]) -> Result<Option<Cost>, Refusal>
+    ensures outcome { outcome (told result) words.new route.new
         ≡ timetabled bytes.now words.old route.old }
-    ensures promise { KeepsTimetable bytes.now words.old route.new result }
+    ensures promise { KeepsTimetable bytes.now words.old route.new (told result) }
 {
-    let mut table = [0u8; Table];
-    let verdict = reader::read(bytes, &mut table);
-    match verdict {
-        Verdict::Refused(n) => Answer::Refused(n),
-        Verdict::Accepted => timetable_of(words, route, &table),
-    }
+    let table = reader::table_of(bytes)?;
+    timetable_of(words, route, &table)
 }
 
 // That of a table that was read. 12 comes "directly after 7".
-fn timetable_of(words: &mut [u32], route: &mut [u8], table: &Table) -> Answer
-    ensures { outcome result words.new route.new
+fn timetable_of(words: &mut [u32], route: &mut [u8], table: &Table) -> Result<Option<Cost>, Refusal>
+    ensures { outcome (told result) words.new route.new
         ≡ timetabled_table (automaton_of table.now.bytes) words.old route.old }
 {
     if !closed::is_closed(table) {
-        return Answer::Refused(NOT_CLOSED);
+        return Err(Refusal::NotClosed);
     }
-    let room = search::room(table, words.len());
-    match room {
-        Searched::Refused(n) => Answer::Refused(n),
-        Searched::Nodes(nodes) => {
-            let answer = find(words, route, table, nodes);
-            search::clear(words, table);
-            answer
-        }
-    }
+    let nodes = search::room(table, words.len())?;
+    let answer = find(words, route, table, nodes);
+    search::clear(words, table);
+    answer
 }
 
 // Searches for it, and writes its pairs.
-fn find(words: &mut [u32], route: &mut [u8], table: &Table, nodes: usize) -> Answer
+fn find(words: &mut [u32], route: &mut [u8], table: &Table, nodes: usize) -> Result<Option<Cost>, Refusal>
     requires { FindReady table.now.bytes nodes words.old }
-    ensures { ReadOff table.now.bytes words.old route.old words.new route.new result }
+    ensures { ReadOff table.now.bytes words.old route.old words.new route.new (told result) }
 {
     let mut rules = [0u8; RULES];
     rules::make(table, &mut rules);
     let states = states::states_of(table);
-    let best = minutes::search(words, states, table, &rules, table.goal());
-    let charge = best.charge;
-    let pairs = best.steps as usize;
-    if charge == INFINITY {
-        return Answer::NoRoute;
+    let goal = ToGoal {
+        minutes: MinuteGraph { states, table, rules: &rules },
+        goal: table.goal(),
+    };
+    let Some(cost) = graph::search(words, &goal) else {
+        return Ok(None);
+    };
+    // "Refusal 10 compares the bytes of all pairs with the route memory."
+    if route.len() < 2 * cost.steps as usize {
+        return Err(Refusal::RouteTooLong);
     }
-    if route.len() < 2 * pairs {
-        return Answer::Refused(ROUTE_TOO_LONG);
-    }
-    walk::walk(words, route, states, table, &rules);
-    Answer::Timetable(charge, pairs)
+    walk::walk(words, route, &goal.minutes);
+    Ok(Some(cost))
 }

@@ -3,19 +3,14 @@ ghost use Rattle.std.specs.Prelude.{◌≡◌, ◌/◌, ◌<◌, ◌≤◌};
 ghost use Rattle.timetable.specs.Steps.{TightRoom, Tells, MoveReady, MoveDone, AfterReady, AfterDone, NextReady, NextDone};
 ghost use Rattle.timetable.specs.Walk.{AdvanceReady, Advanced, BacktrackReady, Backtracked, WalkReady, WalkDone};
 
+use minutes::graph::MinuteGraph;
 use minutes::waits::Source;
 use minutes::{START, waits};
 use near::INFINITY;
-use rules::RULES;
 use space::moves;
-use states::States;
-use table::Table;
 
 // A label counts this much for each minute.
 const MINUTE: u32 = 64;
-
-// No pair: a wait that no ceiling allows.
-const NO_PAIR: u32 = 0xFFFF;
 
 // Where the walk stands: a node, the number of pairs that led to it, and the first label that was not tried there.
 #[derive(Clone, Copy)]
@@ -25,7 +20,7 @@ pub struct Stand {
     pub label: u32,
 }
 
-// A move and the node to which it leads; no move is rules::NONE.
+// A move and the node to which it leads.
 #[derive(Clone, Copy)]
 pub struct Step {
     pub made: usize,
@@ -51,79 +46,44 @@ fn reached_at(words: &[u32], node: usize, charge: u32, pairs: u32) -> bool
 }
 
 // The first of the moves of a state, from `first` on, whose edge is tight: by the words its end is reached along it.
-fn tight_move(
-    words: &[u32],
-    states: States,
-    table: &Table,
-    rules: &[u8; RULES],
-    from: Source,
-    first: usize,
-) -> Step
-    requires { MoveReady table.now.bytes rules.now states from first words.now }
-    ensures { MoveDone table.now.bytes rules.now states from first words.now result }
+fn tight_move(words: &[u32], minutes: &MinuteGraph, from: Source, first: usize) -> Option<Step>
+    requires { MoveReady minutes.now.table.now.bytes minutes.now.rules.now minutes.now.states from first words.now }
+    ensures { MoveDone minutes.now.table.now.bytes minutes.now.rules.now minutes.now.states from first words.now result }
 {
-    let at = from.at;
-    let values = at.values;
+    let values = from.at.values;
     let halves = states::halves(values);
-    let mut e = steps::move_from(rules, halves, at.mode, first);
-    while e < rules::NONE {
-        let node = states::lead(states, table, values, e);
-        let charge = table.price(e) as u32 + from.charge;
+    let mut next = steps::move_from(minutes.rules, halves, from.at.mode, first);
+    while let Some(e) = next {
+        let node = states::lead(minutes.states, minutes.table, values, e);
+        let charge = minutes.table.price(e) as u32 + from.charge;
         if reached_at(words, node, charge, from.pairs) {
-            return Step { made: e, node };
+            return Some(Step { made: e, node });
         }
-        e = moves::next_move(rules, halves, rules::after(rules, e));
+        next = moves::next_move(minutes.rules, halves, rules::after(minutes.rules, e));
     }
-    Step {
-        made: rules::NONE,
-        node: START,
-    }
+    None
 }
 
 // The same after the wait of a label, from its move on.
-fn tight_after(
-    words: &[u32],
-    states: States,
-    table: &Table,
-    rules: &[u8; RULES],
-    from: Source,
-    label: u32,
-) -> Step
-    requires { AfterReady table.now.bytes rules.now states from label words.now }
-    ensures { AfterDone table.now.bytes rules.now states from label words.now result }
+fn tight_after(words: &[u32], minutes: &MinuteGraph, from: Source, label: u32) -> Option<Step>
+    requires { AfterReady minutes.now.table.now.bytes minutes.now.rules.now minutes.now.states from label words.now }
+    ensures { AfterDone minutes.now.table.now.bytes minutes.now.rules.now minutes.now.states from label words.now result }
 {
-    let later = waits::wait(states, table, from, (label / MINUTE) as u8);
-    if waits::stays(rules, later.at) {
-        return tight_move(
-            words,
-            states,
-            table,
-            rules,
-            later,
-            (label % MINUTE) as usize,
-        );
+    let later = waits::wait(minutes, from, (label / MINUTE) as u8);
+    if waits::stays(minutes.rules, later.at) {
+        return tight_move(words, minutes, later, (label % MINUTE) as usize);
     }
-    Step {
-        made: rules::NONE,
-        node: START,
-    }
+    None
 }
 
-// The first pair that was not tried whose edge is tight, or NO_PAIR.
-fn next_pair(
-    words: &[u32],
-    states: States,
-    table: &Table,
-    rules: &[u8; RULES],
-    stand: Stand,
-) -> Next
-    requires { NextReady table.now.bytes rules.now states stand words.now }
-    ensures { NextDone table.now.bytes rules.now states stand words.now result }
+// The first pair that was not tried whose edge is tight.
+fn next_pair(words: &[u32], minutes: &MinuteGraph, stand: Stand) -> Option<Next>
+    requires { NextReady minutes.now.table.now.bytes minutes.now.rules.now minutes.now.states stand words.now }
+    ensures { NextDone minutes.now.table.now.bytes minutes.now.rules.now minutes.now.states stand words.now result }
 {
+    let states = minutes.states;
     let at = states::state_at(states, stand.node);
-    let values = at.values;
-    let ceilings = states.ceilings;
-    let longest = (ceilings[0] - values[0]) as u32;
+    let longest = (states.ceilings[0] - at.values[0]) as u32;
     let from = Source {
         at,
         charge: words[2 * stand.node],
@@ -131,27 +91,16 @@ fn next_pair(
     };
     let mut label = stand.label;
     while label / MINUTE <= longest {
-        let step = tight_after(words, states, table, rules, from, label);
-        if step.made < rules::NONE {
-            return Next {
-                label: label - label % MINUTE + step.made as u32,
+        let wait = label - label % MINUTE;
+        if let Some(step) = tight_after(words, minutes, from, label) {
+            return Some(Next {
+                label: wait + step.made as u32,
                 node: step.node,
-            };
+            });
         }
-        label = label - label % MINUTE + MINUTE;
+        label = wait + MINUTE;
     }
-    Next {
-        label: NO_PAIR,
-        node: START,
-    }
-}
-
-// The mode of a node, of which each mode has so many. The unit's core divides in 32 bits.
-fn mode_of(node: usize, cells: usize) -> usize
-    requires { (node < 65536) × (1 ≤ cells) × (cells < 65536) }
-    ensures { result ≡ node / cells }
-{
-    (node as u32 / cells as u32) as usize
+    None
 }
 
 // Takes the pair. The node at hand goes onto a stack, which stands behind the words of the states.
@@ -185,25 +134,19 @@ fn backtrack(words: &mut [u32], route: &[u8], count: usize, stand: Stand) -> Sta
 }
 
 // "take the fewest pairs, then the first in byte order": goes on by the least pair whose edge is tight, and a pair back where there is none.
-pub fn walk(
-    words: &mut [u32],
-    route: &mut [u8],
-    states: States,
-    table: &Table,
-    rules: &[u8; RULES],
-)
-    requires { WalkReady table.now.bytes rules.now states words.old route.old }
-    ensures { WalkDone table.now.bytes states words.old route.old words.new route.new }
+pub fn walk(words: &mut [u32], route: &mut [u8], minutes: &MinuteGraph)
+    requires { WalkReady minutes.now.table.now.bytes minutes.now.rules.now minutes.now.states words.old route.old }
+    ensures { WalkDone minutes.now.table.now.bytes minutes.now.states words.old route.old words.new route.new }
 {
-    let goal = table.goal();
+    let goal = minutes.table.goal();
+    let states = minutes.states;
     let mut stand = Stand {
         node: START,
         depth: 0,
         label: 0,
     };
-    while mode_of(stand.node, states.cells) != goal {
-        let next = next_pair(words, states, table, rules, stand);
-        if next.label < NO_PAIR {
+    while space::mode_of(stand.node, states.cells) != goal {
+        if let Some(next) = next_pair(words, minutes, stand) {
             stand = advance(words, route, states.count, stand, next);
         } else {
             stand = backtrack(words, route, states.count, stand);

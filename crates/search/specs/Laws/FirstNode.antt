@@ -1,10 +1,8 @@
 -- The first node of the queue is the next to be settled: its edges are in hand, or it ends the search; so does a queue that is empty.
 -- Assumes nothing.
-use mathlib.Core.Path.{◌≡◌, ap}
-use mathlib.Core.List.{List}
-use Prim.Native.Nat.{ℕ, ◌≤◌, ◌<◌}
-use native.Mathlib.Decide.{dec_lt}
-use native.Mathlib.Omega.{arith}
+use Rattle.std.specs.Prelude.{◌≡◌, List, ℕ, ◌≤◌, ◌<◌}
+use Rattle.std.proofs.Common.{ap, arith}
+use Rattle.std.proofs.Math.Decide.{dec_lt}
 use Rattle.semantics.specs.Order.{Cost}
 use Rattle.semantics.specs.Graph.Path.{Graph, Target, unreached, reached}
 use Rattle.semantics.specs.Paths.Words.{table-reached, reached-words}

@@ -6,7 +6,6 @@ use crate::places::Place;
 use crate::tokens::{LETTER, TOKENS};
 use crate::{places, print, scripts, searches};
 use regions::{Region, nodes};
-use search::Searched;
 use table::Table;
 
 const WORDS: usize = 6000;
@@ -14,10 +13,9 @@ const WORDS: usize = 6000;
 pub fn chain(rt: &impl Print, table: &Table, numbers: &[usize; TOKENS])
 {
     let mut words = [0u32; WORDS];
-    let answer = searches::searched(table, &mut words);
-    match answer {
-        Searched::Refused(n) => print::refused(rt, n),
-        Searched::Nodes(_) => follow(rt, table, &words, numbers),
+    match searches::searched(table, &mut words) {
+        Ok(_) => follow(rt, table, &words, numbers),
+        Err(refusal) => print::refused(rt, refusal),
     }
 }
 

@@ -16,10 +16,7 @@ mod timetables;
 mod tokens;
 mod writes;
 
-ghost use Rattle.table.specs.Held.{IsTable};
-
 use crate::tokens::TOKENS;
-use reader::Verdict;
 use std::io;
 use std::io::Read;
 use table::Table;
@@ -98,11 +95,9 @@ fn called(rt: &impl Print, name: usize, line: &[u8], numbers: &[usize; TOKENS], 
 
 // The calls that take a table, if the reader accepts its bytes.
 fn of_table(rt: &impl Print, numbers: &[usize; TOKENS], bytes: &[u8]) {
-    let mut table = [0u8; Table];
-    let verdict = reader::read(bytes, &mut table);
-    match verdict {
-        Verdict::Refused(n) => print::refused(rt, n),
-        Verdict::Accepted => of_accepted(rt, numbers, &table),
+    match reader::table_of(bytes) {
+        Ok(table) => of_accepted(rt, numbers, &table),
+        Err(refusal) => print::refused(rt, refusal),
     }
 }
 

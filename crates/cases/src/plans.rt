@@ -4,7 +4,8 @@ ghost use Rattle.std.specs.Prelude.{◌≡◌, length};
 
 use crate::print;
 use crate::tokens::{LETTER, TOKENS};
-use route::Answer;
+use near::Cost;
+use table::refusals::Refusal;
 
 const WORDS: usize = 129600;
 
@@ -19,7 +20,7 @@ pub fn plan(rt: &impl Print, numbers: &[usize; TOKENS], bytes: &[u8]) {
     let m = numbers[2] % LETTER % 257;
     let answer = route::plan(bytes, &mut words[..n], &mut route[..m]);
     show(rt, answer, &route);
-    told(rt, &words, &route, steps(answer));
+    told(rt, &words, &route, steps_of(answer));
 }
 
 // The words before a call. Of so many, only the length is told, so that no proof looks into them.
@@ -30,9 +31,9 @@ pub fn sevens() -> [u32; WORDS]
 }
 
 pub fn told(rt: &impl Print, words: &[u32; WORDS], route: &[u8; ROUTE], steps: usize) {
-    let zeros = past(words, 0, 0);
-    let sevens = past(words, zeros, 7);
-    let nines = past_bytes(route, steps, 9);
+    let zeros = past(words, 0, &0);
+    let sevens = past(words, zeros, &7);
+    let nines = past(route, steps, &9);
     print::filled(
         rt,
         b"cleared words 0 to A, untouched to B, untouched route bytes from C to D\n",
@@ -41,14 +42,14 @@ pub fn told(rt: &impl Print, words: &[u32; WORDS], route: &[u8; ROUTE], steps: u
 }
 
 // Prints the answer as `plan` does.
-fn show(rt: &impl Print, answer: Answer, route: &[u8; ROUTE]) {
+fn show(rt: &impl Print, answer: Result<Option<Cost>, Refusal>, route: &[u8; ROUTE]) {
     match answer {
-        Answer::Route(charge, n) => {
-            print::with(rt, b"charge A\nroute", charge as usize);
-            listed(rt, route, n);
+        Ok(Some(cost)) => {
+            print::with(rt, b"charge A\nroute", cost.charge as usize);
+            listed(rt, route, cost.steps as usize);
         }
-        Answer::NoRoute => print::text(rt, b"no route\n"),
-        Answer::Refused(n) => print::refused(rt, n),
+        Ok(None) => print::text(rt, b"no route\n"),
+        Err(refusal) => print::refused(rt, refusal),
     }
 }
 
@@ -60,35 +61,16 @@ pub fn listed(rt: &impl Print, route: &[u8; ROUTE], n: usize) {
     print::text(rt, b"\n");
 }
 
-// How many route bytes the answer fills.
-fn steps(answer: Answer) -> usize {
+// How many steps or pairs the answer has.
+pub fn steps_of(answer: Result<Option<Cost>, Refusal>) -> usize {
     match answer {
-        Answer::Route(_, n) => n,
-        Answer::NoRoute => 0,
-        Answer::Refused(_) => 0,
+        Ok(Some(cost)) => cost.steps as usize,
+        _ => 0,
     }
 }
 
-// The first place from a place on where the word is not x.
-fn past(words: &[u32; WORDS], from: usize, x: u32) -> usize {
-    let mut at = from;
-    while at < WORDS {
-        if words[at] != x {
-            return at;
-        }
-        at += 1;
-    }
-    at
-}
-
-// The first place from a place on where the byte is not x.
-pub fn past_bytes(bytes: &[u8], from: usize, x: u8) -> usize {
-    let mut at = from;
-    while at < bytes.len() {
-        if bytes[at] != x {
-            return at;
-        }
-        at += 1;
-    }
-    at
+// The first place from a place on where the element is not x. There are no more before the place than there are elements.
+pub fn past<T: PartialEq>(elements: &[T], from: usize, x: &T) -> usize {
+    let behind = elements.iter().skip(from);
+    from + behind.take_while(|element| **element == *x).count()
 }

@@ -1,4 +1,5 @@
 // Printing to standard output.
+use table::refusals::Refusal;
 
 // A write that fails is passed over, and the next text is printed all the same.
 pub fn text(rt: &impl Print, bytes: &[u8]) {
@@ -38,8 +39,13 @@ pub fn with(rt: &impl Print, text: &[u8], n: usize) {
 }
 
 // The line of a refusal.
-pub fn refused(rt: &impl Print, n: u8) {
-    with(rt, b"refused A\n", n as usize);
+pub fn refused(rt: &impl Print, refusal: Refusal) {
+    with(rt, b"refused A\n", number(refusal));
+}
+
+// The number by which it is told.
+pub fn number(refusal: Refusal) -> usize {
+    usize::from(u8::from(refusal))
 }
 
 // The first n entries.

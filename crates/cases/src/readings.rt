@@ -3,7 +3,6 @@ ghost use Rattle.table.specs.Held.{IsTable};
 
 use crate::print;
 use regions::nodes;
-use regions::nodes::Nodes;
 use table::Table;
 
 pub fn read(rt: &impl Print, table: &Table)
@@ -15,13 +14,9 @@ pub fn read(rt: &impl Print, table: &Table)
         table.goal(),
     ];
     print::filled(rt, b"modes A timers B moves C goal D", counts);
-    count(rt, nodes::node_count(table));
-}
-
-// E, or that it is above 65,536.
-fn count(rt: &impl Print, nodes: Nodes) {
-    match nodes {
-        Nodes::Count(n) => print::with(rt, b" nodes A\n", n),
-        Nodes::TooMany => print::text(rt, b" too many nodes\n"),
+    // E, or that it is above 65,536.
+    match nodes::node_count(table) {
+        Some(nodes) => print::with(rt, b" nodes A\n", nodes),
+        None => print::text(rt, b" too many nodes\n"),
     }
 }

@@ -4,8 +4,8 @@ ghost use Rattle.table.specs.Held.{IsTable};
 use crate::print;
 use crate::tokens::{LETTER, TOKENS};
 use rules::RULES;
-use search::Searched;
 use table::Table;
+use table::refusals::Refusal;
 
 const MOST_WORDS: usize = 6000;
 
@@ -27,7 +27,7 @@ fn shown(rt: &impl Print, table: &Table, words: &mut [u32])
 }
 
 // The search for the table's own goal.
-pub fn searched(table: &Table, words: &mut [u32]) -> Searched
+pub fn searched(table: &Table, words: &mut [u32]) -> Result<usize, Refusal>
 {
     let mut rules = [0u8; RULES];
     rules::make(table, &mut rules);
@@ -35,10 +35,10 @@ pub fn searched(table: &Table, words: &mut [u32]) -> Searched
 }
 
 // The answer, and what the words are listed behind.
-fn answered(rt: &impl Print, answer: Searched) {
+fn answered(rt: &impl Print, answer: Result<usize, Refusal>) {
     match answer {
-        Searched::Refused(n) => print::with(rt, b"refused A\nwords", n as usize),
-        Searched::Nodes(n) => print::with(rt, b"nodes A\nwords", n),
+        Ok(nodes) => print::with(rt, b"nodes A\nwords", nodes),
+        Err(refusal) => print::with(rt, b"refused A\nwords", print::number(refusal)),
     }
 }
 

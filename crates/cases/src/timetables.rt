@@ -2,7 +2,8 @@
 use crate::plans::ROUTE;
 use crate::tokens::{LETTER, TOKENS};
 use crate::{plans, print};
-use timetable::Answer;
+use near::Cost;
+use table::refusals::Refusal;
 
 // Prints the answer, and what became of the words and of the route bytes behind the pairs.
 pub fn timetable(rt: &impl Print, numbers: &[usize; TOKENS], bytes: &[u8]) {
@@ -12,27 +13,19 @@ pub fn timetable(rt: &impl Print, numbers: &[usize; TOKENS], bytes: &[u8]) {
     let m = numbers[2] % LETTER % 257;
     let answer = timetable::timetable(bytes, &mut words[..n], &mut route[..m]);
     show(rt, answer, &route);
-    plans::told(rt, &words, &route, filled(answer));
+    plans::told(rt, &words, &route, bytes_of(plans::steps_of(answer)));
 }
 
 // Prints the answer; of a timetable its charge, its number of pairs, and for each pair the minutes and the move.
-fn show(rt: &impl Print, answer: Answer, route: &[u8; ROUTE]) {
+fn show(rt: &impl Print, answer: Result<Option<Cost>, Refusal>, route: &[u8; ROUTE]) {
     match answer {
-        Answer::Timetable(charge, pairs) => {
-            print::filled(rt, b"charge A\npairs B:", [charge as usize, pairs, 0, 0]);
+        Ok(Some(cost)) => {
+            let pairs = cost.steps as usize;
+            print::filled(rt, b"charge A\npairs B:", [cost.charge as usize, pairs, 0, 0]);
             plans::listed(rt, route, bytes_of(pairs));
         }
-        Answer::NoRoute => print::text(rt, b"no route\n"),
-        Answer::Refused(n) => print::refused(rt, n),
-    }
-}
-
-// How many route bytes the answer fills.
-fn filled(answer: Answer) -> usize {
-    match answer {
-        Answer::Timetable(_, pairs) => bytes_of(pairs),
-        Answer::NoRoute => 0,
-        Answer::Refused(_) => 0,
+        Ok(None) => print::text(rt, b"no route\n"),
+        Err(refusal) => print::refused(rt, refusal),
     }
 }
 

@@ -1,17 +1,17 @@
 // `write ROOM AT VALUE ..: TABLE`: the call that writes a table from a form. The destination's bytes hold 9 before; after the call each of them is
 // looked at, also behind the part that was lent.
-use crate::plans::past_bytes;
+use crate::plans::past;
 use crate::print;
 use crate::tokens::{LETTER, TOKENS};
 use form::FORM;
-use writer::Written;
+use table::refusals::Refusal;
 
 const ROOM: usize = 1024;
 
 // Fills a form from the table, if it is one, sets bytes of it, and writes it into the first bytes of the destination.
 pub fn write(rt: &impl Print, numbers: &[usize; TOKENS], bytes: &[u8]) {
     let mut form = [0u8; FORM];
-    form::fill(bytes, &mut form);
+    let _ = form::fill(bytes, &mut form);
     set(numbers, &mut form);
     let mut destination = [9u8; ROOM];
     let n = numbers[1] % LETTER % 1025;
@@ -31,25 +31,17 @@ fn set(numbers: &[usize; TOKENS], form: &mut [u8; FORM]) {
 }
 
 // Prints the bytes that were written, or the refusal, and how many of those behind are still 9.
-fn show(rt: &impl Print, answer: Written, destination: &[u8; ROOM]) {
-    let n = size(answer);
+fn show(rt: &impl Print, answer: Result<usize, Refusal>, destination: &[u8; ROOM]) {
     match answer {
-        Written::Bytes(_) => {
+        Ok(n) => {
             print::with(rt, b"bytes A:", n);
             listed(rt, destination, n);
         }
-        Written::Refused(r) => print::refused(rt, r),
+        Err(refusal) => print::refused(rt, refusal),
     }
-    let nines = past_bytes(destination, n, 9);
+    let n = answer.unwrap_or(0);
+    let nines = past(destination, n, &9);
     print::filled(rt, b"untouched from A to B\n", [n, nines, 0, 0]);
-}
-
-// How many bytes the answer fills.
-fn size(answer: Written) -> usize {
-    match answer {
-        Written::Bytes(n) => n,
-        Written::Refused(_) => 0,
-    }
 }
 
 // The bytes of a table, and the end of their line.

@@ -1,6 +1,9 @@
 -- An answer in plain numbers, as include/planner.h documents it.
 -- Assumes nothing.
-use Rattle.std.specs.Prelude.{◌≡◌, ◌≢◌, cond, ℕ, eqb}
+use Rattle.std.specs.Prelude.{◌≡◌, ◌≢◌, cond, Option, Some, None, Result, Ok, Err, ℕ, eqb}
+use Rattle.table.specs.declared.refusals.Refusal.{Refusal}
+use Rattle.table.specs.Refusals.{number}
+use Rattle.near.specs.declared.Cost.{Cost}
 use Rattle.route.specs.Answers.{Answer}
 use Rattle.route.specs.Answers.{Refused, NoRoute, Route}
 use Rattle.route.specs.Lend.{Needs}
@@ -33,6 +36,22 @@ decoded_written number length = cond (eqb number 0) (Bytes length) (Written-as-R
 -- A form that was filled: 0 is an accepted table, and any other number the refusal of that number.
 unfoldable pub decoded_verdict : ℕ → Verdict
 decoded_verdict number = cond (eqb number 0) Accepted (Verdict-as-Refused number)
+
+-- The number that tells an answer, and what is told besides: a charge and a number of steps or pairs, where there are some.
+abbrev pub number_of : Result (Option Cost) Refusal → ℕ
+number_of (Ok (Some cost)) = 0
+number_of (Ok None) = 255
+number_of (Err refusal) = number refusal
+
+abbrev pub charge_after : Result (Option Cost) Refusal → ℕ → ℕ
+charge_after (Ok (Some cost)) before = cost.charge
+charge_after (Ok None) before = before
+charge_after (Err refusal) before = before
+
+abbrev pub count_after : Result (Option Cost) Refusal → ℕ → ℕ
+count_after (Ok (Some cost)) before = cost.steps
+count_after (Ok None) before = before
+count_after (Err refusal) before = before
 
 -- "A refusal returns its number only", and so does no route: what was there stays.
 abbrev pub Untouched : (number before after : ℕ) → Type 0

@@ -9,18 +9,33 @@ ghost use Rattle.timetable.specs.Timetabled.{outcome as Timetabled·outcome, tim
 ghost use Rattle.timetable.specs.Promise.{KeepsTimetable};
 ghost use Rattle.form.specs.Filled.{outcome as Filled·outcome, filled};
 ghost use Rattle.writer.specs.Written.{outcome as Written·outcome, written, Lays};
-ghost use Rattle.planner.specs.Numbers.{decoded, decoded_timetable, decoded_needs, decoded_written, decoded_verdict, Untouched};
+ghost use Rattle.planner.specs.Numbers.{decoded, decoded_timetable, decoded_needs, decoded_written, decoded_verdict, number_of, charge_after, count_after, Untouched};
 
 use form::FORM;
-use reader::Verdict;
-use route::{Answer, Needs};
-use timetable::Answer as Timetabled;
-use writer::Written;
+use near::Cost;
+use table::refusals::Refusal;
 
 // The numbers that stand for what was asked for and for no route. A refusal stands for itself: 1 to 12.
 const OK: u8 = 0;
 
 const NO_ROUTE: u8 = 255;
+
+// Tells an answer by its number. A charge and a number of steps or pairs go through the last two parameters; other answers leave those alone.
+fn tell(answer: Result<Option<Cost>, Refusal>, charge: &mut u32, count: &mut usize) -> u8
+    ensures number { result ≡ number_of answer }
+    ensures charge { charge.new ≡ charge_after answer charge.old }
+    ensures count { count.new ≡ count_after answer count.old }
+{
+    match answer {
+        Ok(Some(cost)) => {
+            *charge = cost.charge;
+            *count = cost.steps as usize;
+            OK
+        }
+        Ok(None) => NO_ROUTE,
+        Err(refusal) => u8::from(refusal),
+    }
+}
 
 // Plans the table that the bytes are, with the memory lent for the search and for the route. A route's charge and number of steps
 // go through the last two parameters; other answers leave those alone.
@@ -38,16 +53,7 @@ pub extern "C" fn planner_plan(
     ensures steps { Untouched result steps.old steps.new }
     ensures demand { KeepsDemand table.now (length words.old) route.new (decoded result charge.new steps.new) }
 {
-    let answer = route::plan(table, words, route);
-    match answer {
-        Answer::Refused(n) => n,
-        Answer::NoRoute => NO_ROUTE,
-        Answer::Route(c, n) => {
-            *charge = c;
-            *steps = n;
-            OK
-        }
-    }
+    tell(route::plan(table, words, route), charge, steps)
 }
 
 // Gives the timetable of the table that the bytes are, with the memory lent for the search and for the pairs. Its charge and number of pairs
@@ -66,16 +72,7 @@ pub extern "C" fn planner_timetable(
     ensures pairs { Untouched result pairs.old pairs.new }
     ensures promise { KeepsTimetable table.now words.old route.new (decoded_timetable result charge.new pairs.new) }
 {
-    let answer = timetable::timetable(table, words, route);
-    match answer {
-        Timetabled::Refused(n) => n,
-        Timetabled::NoRoute => NO_ROUTE,
-        Timetabled::Timetable(least, number) => {
-            *charge = least;
-            *pairs = number;
-            OK
-        }
-    }
+    tell(timetable::timetable(table, words, route), charge, pairs)
 }
 
 // Says how much to lend for planning the table that the bytes are. The words that are needed and the route bytes that are enough go through the last
@@ -87,14 +84,13 @@ pub extern "C" fn planner_lend(table: &[u8], need: &mut usize, room: &mut usize)
     ensures room { Untouched result room.old room.new }
     ensures promise { Enough table.now (decoded_needs result need.new room.new) }
 {
-    let needs = route::lend(table);
-    match needs {
-        Needs::Refused(n) => n,
-        Needs::Memory(w, b) => {
-            *need = w;
-            *room = b;
+    match route::lend(table) {
+        Ok(memory) => {
+            *need = memory.words;
+            *room = memory.route;
             OK
         }
+        Err(refusal) => u8::from(refusal),
     }
 }
 
@@ -105,13 +101,12 @@ pub extern "C" fn planner_write(form: &[u8; FORM], destination: &mut [u8], size:
     ensures layout { Lays form.now (decoded_written result size.new) destination.new }
     ensures size { Untouched result size.old size.new }
 {
-    let answer = writer::write(form, destination);
-    match answer {
-        Written::Refused(n) => n,
-        Written::Bytes(n) => {
+    match writer::write(form, destination) {
+        Ok(n) => {
             *size = n;
             OK
         }
+        Err(refusal) => u8::from(refusal),
     }
 }
 
@@ -120,9 +115,8 @@ pub extern "C" fn planner_write(form: &[u8; FORM], destination: &mut [u8], size:
 pub extern "C" fn planner_read(table: &[u8], form: &mut [u8; FORM]) -> u8
     ensures { Filled·outcome (decoded_verdict result) form.new ≡ filled table.now form.old }
 {
-    let verdict = form::fill(table, form);
-    match verdict {
-        Verdict::Refused(n) => n,
-        Verdict::Accepted => OK,
+    match form::fill(table, form) {
+        Ok(()) => OK,
+        Err(refusal) => u8::from(refusal),
     }
 }

@@ -3,14 +3,15 @@
 
 ghost use Rattle.std.specs.Prelude.{ℕ, ◌+◌, ◌≤◌, ◌≡◌, List, ◌++◌, [], length, take};
 ghost use Rattle.io.specs.Counts.{IsPrefixLen};
-ghost use Rattle.route.specs.Answers.{Refused, Route};
+ghost use Rattle.route.specs.Answers.{Refused, Route, told as route_told};
 ghost use Rattle.report.specs.Lines.{decimal, step_texts};
 ghost use Rattle.report.specs.Lines.{lines as Lines·lines};
-ghost use Rattle.report.specs.Destination.{room, overwritten, filled, lines_into};
+ghost use Rattle.report.specs.Destination.{told, room, overwritten, filled, lines_into};
 ghost use Rattle.report.specs.Text.{printed, kept};
 ghost use Rattle.report.specs.Put.{Put};
 
-use route::Answer;
+use near::Cost;
+use table::refusals::Refusal;
 
 // "lends 6,000 words and 256 route bytes".
 const WORDS: usize = 6000;
@@ -25,11 +26,24 @@ const STEP: usize = 4;
 // The longest text that is printed.
 pub const TEXT: usize = FRAME + STEP * ROUTE;
 
-// How many bytes were written; or the destination was too short.
-#[derive(Clone, Copy)]
-pub enum Written {
-    Bytes(usize),
-    TooShort,
+// An answer to be printed. It is no `Result`, since `lines` prints refusals of any number and routes of any number of steps.
+#[derive(Clone, Copy, Debug, PartialEq, Eq)]
+pub enum Answer {
+    Refused(u8),
+    NoRoute,
+    Route(u32, usize),
+}
+
+impl From<Result<Option<Cost>, Refusal>> for Answer {
+    ghost from_gives = { λ planned answer. told answer ≡ route_told planned };
+
+    fn from(planned: Result<Option<Cost>, Refusal>) -> Answer {
+        match planned {
+            Ok(Some(cost)) => Answer::Route(cost.charge, cost.steps as usize),
+            Ok(None) => Answer::NoRoute,
+            Err(refusal) => Answer::Refused(u8::from(refusal)),
+        }
+    }
 }
 
 // Plans the table that the bytes are with the memory that the unit lends, puts what `plan` prints at the start of text, and says how many bytes it is.
@@ -42,23 +56,23 @@ pub fn plan_text(bytes: &[u8], text: &mut [u8; TEXT]) -> usize
     let mut words = [0u32; WORDS];
     let mut route = [0u8; ROUTE];
     let answer = route::plan(bytes, &mut words, &mut route);
-    put_lines(answer, &route, text)
+    put_lines(Answer::from(answer), &route, text)
 }
 
-// Puts the lines of the answer at the start of out. The route bytes begin with the route.
-pub fn lines(answer: Answer, route: &[u8], out: &mut [u8]) -> Written
-    ensures { filled result out.new ≡ lines_into answer route.now out.old }
+// Puts the lines of the answer at the start of out, and says how many bytes they are; None where out is too short. The route bytes begin with the route.
+pub fn lines(answer: Answer, route: &[u8], out: &mut [u8]) -> Option<usize>
+    ensures { filled result out.new ≡ lines_into (told answer) route.now out.old }
 {
     if out.len() < FRAME || (out.len() - FRAME) / STEP < route.len() {
-        return Written::TooShort;
+        return None;
     }
-    Written::Bytes(put_lines(answer, route, out))
+    Some(put_lines(answer, route, out))
 }
 
 // The same for a destination that has the room.
 fn put_lines(answer: Answer, route: &[u8], out: &mut [u8]) -> usize
     requires { room (length route.now) ≤ length out.old }
-    ensures { Put (Lines·lines answer route.now) 0 out.old result out.new }
+    ensures { Put (Lines·lines (told answer) route.now) 0 out.old result out.new }
 {
     match answer {
         Answer::Refused(n) => put_refusal(n, out),
@@ -72,7 +86,7 @@ fn put_refusal(n: u8, out: &mut [u8]) -> usize
     requires { length (Lines·lines (Refused n) []) ≤ length out.old }
     ensures { Put (Lines·lines (Refused n) []) 0 out.old result out.new }
 {
-    let at = put_field(b"refused ", n as u64, 0, out);
+    let at = put_field(b"refused ", u64::from(n), 0, out);
     put_text(b"\n", at, out)
 }
 
@@ -81,7 +95,7 @@ fn put_route(charge: u32, route: &[u8], steps: usize, out: &mut [u8]) -> usize
     requires { length (Lines·lines (Route charge steps) route.now) ≤ length out.old }
     ensures { Put (Lines·lines (Route charge steps) route.now) 0 out.old result out.new }
 {
-    let at = put_field(b"charge ", charge as u64, 0, out);
+    let at = put_field(b"charge ", u64::from(charge), 0, out);
     let at = put_text(b"\nroute", at, out);
     let at = put_steps(route, steps, at, out);
     put_text(b"\n", at, out)
@@ -93,10 +107,8 @@ fn put_steps(route: &[u8], n: usize, at: usize, out: &mut [u8]) -> usize
     ensures { Put (step_texts (take n route.now)) at out.old result out.new }
 {
     let mut next = at;
-    let mut i = 0;
-    while i < n && i < route.len() {
-        next = put_field(b" ", route[i] as u64, next, out);
-        i += 1;
+    for byte in route.iter().take(n) {
+        next = put_field(b" ", u64::from(*byte), next, out);
     }
     next
 }
@@ -125,8 +137,7 @@ fn put_text(text: &[u8], at: usize, out: &mut [u8]) -> usize
     requires { at + length text.now ≤ length out.old }
     ensures { Put text.now at out.old result out.new }
 {
-    for i in 0..text.len() {
-        out[at + i] = text[i];
-    }
-    at + text.len()
+    let end = at + text.len();
+    out[at..end].copy_from_slice(text);
+    end
 }

@@ -8,7 +8,7 @@ use mathlib.Core.List.{List, [], ◌∷◌}
 use Prim.Native.Nat.{ℕ, ◌+◌, ◌*◌, ◌%◌, ◌≤◌, ◌<◌}
 use native.Mathlib.Decide.{ℕ_discrete}
 use native.Mathlib.Omega.{arith}
-use borrow.Author.Tests.{eq-eqb, ne_eqb, eqb-true, le-leb, lt-leb}
+use borrow.Author.Tests.{eq-eqb, ne_eqb, le-leb, lt-leb}
 use lib.Dec.{eqb, leb}
 use lib.ListN.{length, drop}
 use Rattle.semantics.specs.Order.{Cost, cost}
@@ -24,15 +24,31 @@ use Rattle.near.specs.Near.{best_entry}
 use Rattle.search.specs.Exploring.{costs_in}
 use Rattle.search.specs.Keep.{no_farther, is_near, KeptNear}
 
--- The test of a cost that is not reached, and of one that is.
+-- The test of a cost that is not reached.
 module _ (charge steps : ℕ) (best : Option CostHeld) where
   pub unreached-far : charge ≡ infinity → false ≡ is_near charge steps best
   unfolding is_near
   unreached-far e = rw (eq-eqb charge infinity e) refl
 
-  pub reached-near : charge ≢ infinity → no_farther charge steps best ≡ is_near charge steps best
+-- Of one that is, all are near where there is no best; otherwise the best decides.
+module _ (charge steps : ℕ) (best : Option CostHeld) (known : charge ≢ infinity) where
+  reached-near : no_farther charge steps best ≡ is_near charge steps best
   unfolding is_near
-  reached-near n = rw (ne_eqb charge infinity n) refl
+  reached-near = rw (ne_eqb charge infinity known) refl
+
+  pub none-nearer : best ≡ None → true ≡ is_near charge steps best
+  none-nearer e = sym (ap (no_farther charge steps) e) ∙ reached-near
+
+  module _ {b : CostHeld} (is : best ≡ Some b) where
+    pub best-cheaper : charge ≤ b.charge → leb steps b.steps ≡ is_near charge steps best
+    best-cheaper h =
+        let both : no_farther charge steps (Some b) ≡ leb steps b.steps = rw (le-leb charge b.charge h) refl in
+        sym both ∙ sym (ap (no_farther charge steps) is) ∙ reached-near
+
+    pub best-dearer : b.charge < charge → leb charge b.charge ≡ is_near charge steps best
+    best-dearer h =
+        let both : no_farther charge steps (Some b) ≡ leb charge b.charge = rw (lt-leb charge b.charge h) refl in
+        sym both ∙ sym (ap (no_farther charge steps) is) ∙ reached-near
 
 -- The entry that is left of a cost, and its words.
 near_none : (best : Option CostHeld) → near (best_entry best) unreached ≡ unreached

@@ -2,24 +2,24 @@
 -- Assumes nothing.
 use mathlib.Core.Path.{◌≡◌, refl, sym, ap, ap₂, subst, ◌∙◌}
 use mathlib.Core.Bool.{cond}
-use Rattle.std.specs.Prelude.{Some, None}
-use mathlib.Core.Logic.{◌≢◌, inl, inr}
+use Rattle.std.specs.Prelude.{Option, Some, None}
+use mathlib.Core.Logic.{◌≢◌}
 use mathlib.Core.List.{List}
 use Prim.Native.Nat.{ℕ, suc, ◌+◌, ◌*◌, ◌%◌, ◌≤◌, ◌<◌}
 use native.Mathlib.Decide.{ℕ_discrete, dec_lt}
 use native.Mathlib.Omega.{arith}
-use borrow.Author.Tests.{eq-eqb, ne_eqb, lt-ltb, le-ltb, le-leb, lt-leb}
+use borrow.Author.Tests.{eq-eqb, lt-ltb, le-ltb, le-leb, lt-leb}
 use lib.Dec.{eqb, ltb, leb}
 use lib.ListN.{length, drop}
 use Rattle.semantics.specs.Distinct.{distinct}
 use Rattle.semantics.specs.Order.{Cost, cost}
-use Rattle.semantics.specs.Graph.Path.{Edge, Graph, Leaves, Target, Entry, unreached, reached, infinity, charge_at, steps_at}
+use Rattle.semantics.specs.Graph.Path.{Target, Entry, reached, infinity, charge_at, steps_at}
 use Rattle.semantics.specs.Paths.Explored.{Explored}
-use Rattle.semantics.specs.Paths.Near.{BestTarget, TargetWithin}
+use Rattle.semantics.specs.Paths.Near.{BestTarget}
 use Rattle.semantics.specs.Paths.Settling.{key_of}
 use Rattle.semantics.specs.Paths.Sum.{sum_same}
-use Rattle.queue.specs.Tournament.{none}
-use Rattle.queue.specs.Queue.{lows, slot_at, key, cost_in, Queue, Seated, SettleReady, SettleDone}
+use Rattle.queue.specs.Queue.{lows, slot_at, as_node, key, cost_in, Queue, SettleReady, SettleDone}
+use Rattle.queue.specs.Laws.Held.{some-first, no-first}
 use Rattle.queue.specs.Laws.Lows.{lows-charge, lows-steps, costs-length, costs-rest}
 use Rattle.queue.specs.Laws.First.{first-pending, first-least}
 use Rattle.queue.specs.Laws.Once.{unsettled, unsettled_count, settled-once}
@@ -98,34 +98,28 @@ module _ {r : Rooted} {ws₀ ws : List ℕ} (turn : Turn r ws₀ ws) where
   pub first-room : 3 < length ws
   first-room = omega (arith, turn.between.queue.words.two, turn.between.queue.words.room)
 
-  seated : Seated r.graph.nodes (slot_at ws 1)
-  seated = turn.between.queue.words.slots 1 (omega arith) (omega (arith, turn.between.queue.words.two))
-
   -- Nobody is pending.
-  pub turn-none : none ≤ slot_at ws 1 → FoundTarget r ws₀ ws None
-  turn-none past = record {
-    explored = none-explored turn.between empty;
-    within = λ a q. distinct cc;
-    best = none-best turn.between empty;
-    rest = turn.rest;
-    kept = turn.kept;
-  }
-    where
-      at : Seated r.graph.nodes (slot_at ws 1) → slot_at ws 1 ≡ none
-      at (inl e) = e
-      at (inr h) = absurd (omega (arith, past, h, turn.between.queue.words.few))
-
-      empty : slot_at ws 1 ≡ none
-      empty = at seated
+  pub turn-none : {next : Option ℕ} → next ≡ as_node (slot_at ws 1) → next ≡ None → FoundTarget r ws₀ ws None
+  turn-none is nobody =
+      let empty = no-first turn.between.queue.words is nobody in
+      record {
+        explored = none-explored turn.between empty;
+        within = λ a q. distinct cc;
+        best = none-best turn.between empty;
+        rest = turn.rest;
+        kept = turn.kept;
+      }
 
   -- A node is.
-  module _ (node : ℕ) (first : slot_at ws 1 ≡ node) (some : node < none) where
-    pub there : node < r.graph.nodes
-    there = at seated
-      where
-        at : Seated r.graph.nodes (slot_at ws 1) → node < r.graph.nodes
-        at (inl e) = absurd (omega (arith, e, first))
-        at (inr h) = omega (arith, h, first)
+  pub turn-node : {next : Option ℕ} {node : ℕ} → next ≡ as_node (slot_at ws 1) → next ≡ Some node → (slot_at ws 1 ≡ node) × (node < r.graph.nodes)
+  turn-node is some = some-first turn.between.queue.words is some
+
+  module _ {node : ℕ} (o : (slot_at ws 1 ≡ node) × (node < r.graph.nodes)) where
+    first : slot_at ws 1 ≡ node
+    first = o.0
+
+    there : node < r.graph.nodes
+    there = o.1
 
     known : charge_at (lows r.graph.nodes ws) node ≢ infinity
     known = (first-pending r.graph.nodes turn.upto ws turn.between.queue node there first).0

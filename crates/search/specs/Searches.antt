@@ -2,7 +2,7 @@
 -- Assumes nothing.
 use Rattle.std.specs.Prelude.{◌≡◌, ◌↔◌, Bool, true, false, Option, List, ◌++◌, ℕ, ◌*◌, ◌%◌, ◌≤◌, ◌<◌, length, drop}
 use Rattle.semantics.specs.Order.{Cost}
-use Rattle.semantics.specs.Graph.Path.{Edge, Graph, Closed, WeightsWithin, Target, reached, infinity, charge_at, steps_at, table}
+use Rattle.semantics.specs.Graph.Path.{Edge, Closed, WeightsWithin, Target, reached, infinity, charge_at, steps_at, table}
 use Rattle.semantics.specs.Graph.Distance.{distance}
 use Rattle.semantics.specs.Graph.Near.{near_words}
 use Rattle.semantics.specs.Answers.Walk.{NearCosts}

@@ -2,7 +2,7 @@
 ghost use Rattle.std.specs.Prelude.{◌≡◌};
 ghost use Rattle.near.specs.Near.{NearRoom};
 ghost use Rattle.search.specs.Keep.{is_near, KeptNear};
-ghost use Rattle.search.specs.Finding.{SeedReady, Seeded};
+ghost use Rattle.search.specs.Seeding.{SeedReady, Seeded};
 
 use near::{Cost, INFINITY};
 

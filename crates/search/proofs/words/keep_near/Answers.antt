@@ -12,7 +12,7 @@ use Rattle.search.proofs.words.keep_near.Goals as goal
 
 pub loop-v-init : goal.loop-v-init
 loop-v-init c =
-    (omega arith, c.requires.words.room, keeping_none c.args.nodes c.args.best c.args.words.now)
+    (omega arith, c.requires.room, keeping_none c.args.nodes c.args.best c.args.words.now)
 
 pub bounds-words-v-in-loop-v : goal.bounds-words-v-in-loop-v
 bounds-words-v-in-loop-v c =
@@ -34,9 +34,9 @@ loop-v-preserved c =
     elim c.if-near-2.branch [ then-near-2 w ↦ rw w.if-near-2.true w.words-is | else-near-2 w ↦ rw w.if-near-2.false w.words-is ] in
     let next : Keeping n best (v + 1) ws (set (set us (2 * v) c.if-near.words) (2 * v + 1) c.if-near-2.words) =
     rw (charge, steps)
-    (keeping-chosen n best v ws us c.requires.words.room there c.loop-v.invariant.2 c.requires.blank c.charge_of-charge.result
-    c.steps_of-steps.result most c.charge_of-charge.ensures c.steps_of-steps.ensures c.is_near-near.result (sym c.is_near-near.ensures)) in
-    (omega arith, omega (arith, next.kept, c.requires.words.room), next)
+    (keeping-chosen n best v ws us c.requires.room there c.loop-v.invariant.2 c.charge_of-charge.result
+    c.steps_of-steps.result c.charge_of-charge.ensures c.steps_of-steps.ensures c.is_near-near.result (sym c.is_near-near.ensures)) in
+    (omega arith, omega (arith, next.kept, c.requires.room), next)
 
 pub shape_of-words : goal.shape_of-words
 shape_of-words c = c.loop-v.invariant.2.kept

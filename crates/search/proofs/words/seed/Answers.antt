@@ -13,9 +13,9 @@ slice_bounds-fill-end-2 c = sym (length-take-le (2 * c.args.nodes) c.args.words.
 pub lower-requires : goal.lower-requires
 lower-requires c =
     seed-ready c.args.nodes c.args.start c.args.words.now c.requires _
-    (blank-is c.args.nodes c.args.words.now c.fill.new.words c.requires.room c.fill.ensures)
+    (blank-is c.args.nodes c.args.words.now c.fill.new.self c.requires.room (c.fill.ensures.after (λ y e. e)))
 
 pub returns : goal.returns
 returns c =
     seeds c.args.nodes c.args.start c.args.words.now c.requires _ c.lower.new.words
-    (blank-is c.args.nodes c.args.words.now c.fill.new.words c.requires.room c.fill.ensures) c.lower.ensures
+    (blank-is c.args.nodes c.args.words.now c.fill.new.self c.requires.room (c.fill.ensures.after (λ y e. e))) c.lower.ensures

@@ -177,7 +177,8 @@ fn move_record(
     high_byte(bytes, byte.next, byte.value, table, at + PRICE + HIGH)
 }
 
-// The mode records, one after another. The unit's core multiplies in 32 bits.
+// The mode records, one after another. The unit's core multiplies in 32 bits. A loop for these and the move records would take the function of
+// one record as a closure, with a contract longer than both.
 fn mode_records(
     bytes: &[u8],
     from: usize,

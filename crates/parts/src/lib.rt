@@ -2,7 +2,7 @@
 // function for each kind of byte, which puts it behind those that are there.
 #![tactic(auto)]
 
-ghost use Rattle.std.specs.Prelude.{◌≡◌, [], ◌∷◌, ◌++◌, ◌≤◌, ◌<◌, Ok};
+ghost use Rattle.std.specs.Prelude.{◌≡◌, [], ◌∷◌, ◌++◌, ◌≤◌, ◌<◌, true, Ok};
 ghost use Rattle.table.specs.Refusals.{number};
 ghost use Rattle.reader.specs.Format.{between};
 ghost use Rattle.parts.specs.Part.{checked, unless_zero};
@@ -75,74 +75,71 @@ pub fn between(b: u8, least: u8, most: u8) -> bool
     (least..=most).contains(&b)
 }
 
-// A byte, put at its place: gives the place of the next one. Where the byte does not pass its test it is refused.
-pub fn checked(
-    b: u8,
-    passes: bool,
-    refusal: Refusal,
-    bytes: &mut [u8; LONGEST],
-    at: usize,
-) -> Result<usize, Refusal>
-    requires { at < 919 }
-    ensures { Overlays (checked passes (number refusal) b) bytes.old at result bytes.new }
-{
-    if !passes {
-        return Err(refusal);
+// The bytes of a table as they are written, and the place of the next one.
+pub struct Pen {
+    pub bytes: [u8; LONGEST],
+    pub at: usize,
+}
+
+impl Pen {
+    // A byte.
+    fn put(&mut self, b: u8)
+        requires { self.old.at < 919 }
+        ensures { Overlays (checked true 0 b) self.old (Ok tt) self.new }
+    {
+        self.bytes[self.at] = b;
+        self.at += 1;
     }
-    bytes[at] = b;
-    Ok(at + 1)
-}
 
-// A count, a goal or a ceiling from least to most.
-pub fn counted(
-    b: u8,
-    least: u8,
-    most: u8,
-    bytes: &mut [u8; LONGEST],
-    at: usize,
-) -> Result<usize, Refusal>
-    requires { at < 919 }
-    ensures { Overlays (checked (between least most b) 2 b) bytes.old at result bytes.new }
-{
-    checked(b, between(b, least, most), Refusal::OutOfRange, bytes, at)
-}
-
-// The same as `checked`, left out where it is 0.
-pub fn unless_zero(
-    b: u8,
-    passes: bool,
-    refusal: Refusal,
-    bytes: &mut [u8; LONGEST],
-    at: usize,
-) -> Result<usize, Refusal>
-    requires { at < 919 }
-    ensures { Overlays (unless_zero passes (number refusal) b) bytes.old at result bytes.new }
-{
-    if b == 0 {
-        return Ok(at);
+    // A byte; where it does not pass its test it is refused.
+    pub fn checked(&mut self, b: u8, passes: bool, refusal: Refusal) -> Result<(), Refusal>
+        requires { self.old.at < 919 }
+        ensures { Overlays (checked passes (number refusal) b) self.old result self.new }
+    {
+        if !passes {
+            return Err(refusal);
+        }
+        self.put(b);
+        Ok(())
     }
-    checked(b, passes, refusal, bytes, at)
-}
 
-// A byte of a rate or price, left out where it is 0: gives the place of the next byte.
-pub fn amount_byte(b: u8, bytes: &mut [u8; LONGEST], at: usize) -> usize
-    requires { at < 919 }
-    ensures { Overlays (amount_byte b) bytes.old at (Ok result) bytes.new }
-{
-    if 0 < b {
-        bytes[at] = b;
-        return at + 1;
+    // A count, a goal or a ceiling from least to most.
+    pub fn counted(&mut self, b: u8, least: u8, most: u8) -> Result<(), Refusal>
+        requires { self.old.at < 919 }
+        ensures { Overlays (checked (between least most b) 2 b) self.old result self.new }
+    {
+        self.checked(b, between(b, least, most), Refusal::OutOfRange)
     }
-    at
-}
 
-// A bit map, refused where a condition is on an absent timer.
-pub fn map_byte(map: u8, timers: u8, bytes: &mut [u8; LONGEST], at: usize) -> Result<usize, Refusal>
-    requires { (timers ≤ 3) × (at < 919) }
-    ensures { Overlays (map_byte timers map) bytes.old at result bytes.new }
-{
-    let limit = names(timers);
-    let first = map / 2 % 8 < limit;
-    let further = map / 16 % 8 < limit;
-    checked(map, first & further, Refusal::AbsentTimer, bytes, at)
+    // The same as `checked`, left out where it is 0.
+    pub fn unless_zero(&mut self, b: u8, passes: bool, refusal: Refusal) -> Result<(), Refusal>
+        requires { self.old.at < 919 }
+        ensures { Overlays (unless_zero passes (number refusal) b) self.old result self.new }
+    {
+        if b == 0 {
+            return Ok(());
+        }
+        self.checked(b, passes, refusal)
+    }
+
+    // A byte of a rate or price, left out where it is 0.
+    pub fn amount_byte(&mut self, b: u8)
+        requires { self.old.at < 919 }
+        ensures { Overlays (amount_byte b) self.old (Ok tt) self.new }
+    {
+        if 0 < b {
+            self.put(b);
+        }
+    }
+
+    // A bit map, refused where a condition is on an absent timer.
+    pub fn map_byte(&mut self, map: u8, timers: u8) -> Result<(), Refusal>
+        requires { (timers ≤ 3) × (self.old.at < 919) }
+        ensures { Overlays (map_byte timers map) self.old result self.new }
+    {
+        let limit = names(timers);
+        let first = map / 2 % 8 < limit;
+        let further = map / 16 % 8 < limit;
+        self.checked(map, first & further, Refusal::AbsentTimer)
+    }
 }

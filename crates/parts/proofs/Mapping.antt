@@ -1,4 +1,4 @@
--- The bits of a map by threes, and six elements.
+-- The bits of a map by threes.
 -- Assumes nothing.
 use Prim.Native.Nat.{ℕ, ◌+◌, ◌*◌}
 use native.Mathlib.Omega.{arith}
@@ -18,8 +18,3 @@ bits-six low last (a ∷ b ∷ c ∷ d ∷ []) h = absurd (omega arith)
 bits-six low last (a ∷ b ∷ c ∷ d ∷ e ∷ []) h = absurd (omega arith)
 bits-six low last (a ∷ b ∷ c ∷ d ∷ e ∷ f ∷ []) h = omega arith
 bits-six low last (a ∷ b ∷ c ∷ d ∷ e ∷ f ∷ g ∷ l) h = absurd (omega arith)
-
--- Six elements that are given one by one.
-pub six-same : {a b c d e f a' b' c' d' e' f' : ℕ} → a ≡ a' → b ≡ b' → c ≡ c' → d ≡ d' → e ≡ e' → f ≡ f' →
-    a ∷ b ∷ c ∷ d ∷ e ∷ f ∷ [] ≡ a' ∷ b' ∷ c' ∷ d' ∷ e' ∷ f' ∷ []
-six-same p q r s t u = λ i. p i ∷ q i ∷ r i ∷ s i ∷ t i ∷ u i ∷ []

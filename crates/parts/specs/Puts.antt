@@ -1,11 +1,14 @@
 -- The contract of each private function of the writer that writes a part from a place on.
 -- Assumes nothing.
-use Rattle.std.specs.Prelude.{ℕ, ◌+◌, ◌≤◌, ◌≡◌, List}
+use Rattle.std.specs.Prelude.{ℕ, ◌+◌, ◌≤◌, ◌≡◌, Result, OnOk}
+use Rattle.table.specs.declared.refusals.Refusal.{Refusal}
 use Rattle.form.specs.Appends.{Appends}
+use Rattle.parts.specs.declared.Pen.{Pen}
 use Rattle.parts.specs.Part.{Part}
+use Rattle.parts.specs.Overlays.{fault_of}
 
--- The part's refusal; or none, 0, the part's bytes behind those that were there, at most so many, and the place of the next byte.
-pub record Puts (most : ℕ) (p : Part) (t : List ℕ) (at refusal next : ℕ) (t' : List ℕ) : Type 0 where
-  pub number : refusal ≡ p.fault
-  pub few : refusal ≡ 0 → next ≤ at + most
-  pub put : refusal ≡ 0 → Appends t at p.bytes t' next
+-- The part's refusal; or none, the part's bytes behind those that were there, at most so many, and the place of the next byte.
+pub record Puts (most : ℕ) (p : Part) (old : Pen) (r : Result (Unit {0}) Refusal) (new : Pen) : Type 0 where
+  pub fault : fault_of r ≡ p.fault
+  pub few : OnOk r (new.at ≤ old.at + most)
+  pub put : OnOk r (Appends old.bytes old.at p.bytes new.bytes new.at)

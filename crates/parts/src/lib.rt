@@ -2,15 +2,17 @@
 // function for each kind of byte, which puts it behind those that are there.
 #![tactic(auto)]
 
-ghost use Rattle.std.specs.Prelude.{◌≡◌, [], ◌∷◌, ◌++◌, ◌≤◌, ◌<◌, length};
+ghost use Rattle.std.specs.Prelude.{◌≡◌, [], ◌∷◌, ◌++◌, ◌≤◌, ◌<◌, true, Ok};
+ghost use Rattle.table.specs.Refusals.{number};
 ghost use Rattle.reader.specs.Format.{between};
 ghost use Rattle.parts.specs.Part.{checked, unless_zero};
 ghost use Rattle.parts.specs.Format.{bit_of, bits_of, map_byte, amount_byte};
 ghost use Rattle.parts.specs.Compact.{first_of, further_of, compact};
 ghost use Rattle.parts.specs.Overlays.{Overlays};
 
-use reader::{ABSENT_TIMER, CONDITIONS, LONGEST, OUT_OF_RANGE};
+use reader::{CONDITIONS, LONGEST};
 use table::names;
+use table::refusals::Refusal;
 
 // Of the two conditions on a timer, the one that stands in the first place.
 pub fn first_of(a: u8, b: u8) -> u8
@@ -45,7 +47,7 @@ pub fn bit_of(b: u8) -> u8
     ensures is { result ≡ bit_of b }
     ensures small { result ≤ 1 }
 {
-    if b == 0 { 0 } else { 1 }
+    u8::from(b != 0)
 }
 
 // The bits of three fields.
@@ -58,7 +60,6 @@ fn three(a: u8, b: u8, c: u8) -> u8
 
 // A bit map: the low byte, six conditions, and what bit 7 is for. A caller that took the low byte from an array learns here that it is one.
 pub fn bits(low: u8, six: [u8; CONDITIONS], last: u8) -> u8
-    requires { length six ≡ 6 }
     ensures is { result ≡ bits_of (low ∷ (six ++ last ∷ [])) }
     ensures byte { low < 256 }
 {
@@ -67,82 +68,78 @@ pub fn bits(low: u8, six: [u8; CONDITIONS], last: u8) -> u8
     bit_of(low) + 2 * first + 16 * further + 128 * bit_of(last)
 }
 
-// What the functions give: a refusal's number or 0, and the place of the next byte.
-#[derive(Clone, Copy)]
-pub struct Next {
-    pub refusal: u8,
-    pub next: usize,
-}
-
 // From least to most.
 pub fn between(b: u8, least: u8, most: u8) -> bool
     ensures { result ≡ between least most b }
 {
-    if b < least {
-        return false;
-    }
-    b <= most
+    (least..=most).contains(&b)
 }
 
-// A byte; where it does not pass its test it is refused by the number.
-pub fn checked(b: u8, passes: bool, number: u8, bytes: &mut [u8; LONGEST], at: usize) -> Next
-    requires { (0 < number) × (at < 919) × (length bytes.old ≡ 919) }
-    ensures { Overlays (checked passes number b) bytes.old at result.refusal result.next bytes.new }
-{
-    if !passes {
-        return Next {
-            refusal: number,
-            next: at,
-        };
-    }
-    bytes[at] = b;
-    Next {
-        refusal: 0,
-        next: at + 1,
-    }
+// The bytes of a table as they are written, and the place of the next one.
+pub struct Pen {
+    pub bytes: [u8; LONGEST],
+    pub at: usize,
 }
 
-// A count, a goal or a ceiling from least to most.
-pub fn counted(b: u8, least: u8, most: u8, bytes: &mut [u8; LONGEST], at: usize) -> Next
-    requires { (at < 919) × (length bytes.old ≡ 919) }
-    ensures { Overlays (checked (between least most b) 2 b) bytes.old at result.refusal result.next bytes.new }
-{
-    checked(b, between(b, least, most), OUT_OF_RANGE, bytes, at)
-}
-
-// The same as `checked`, left out where it is 0.
-pub fn unless_zero(b: u8, passes: bool, number: u8, bytes: &mut [u8; LONGEST], at: usize) -> Next
-    requires { (0 < number) × (at < 919) × (length bytes.old ≡ 919) }
-    ensures { Overlays (unless_zero passes number b) bytes.old at result.refusal result.next bytes.new }
-{
-    if b != 0 {
-        return checked(b, passes, number, bytes, at);
+impl Pen {
+    // A byte.
+    fn put(&mut self, b: u8)
+        requires { self.old.at < 919 }
+        ensures { Overlays (checked true 0 b) self.old (Ok tt) self.new }
+    {
+        self.bytes[self.at] = b;
+        self.at += 1;
     }
-    Next {
-        refusal: 0,
-        next: at,
-    }
-}
 
-// A byte of a rate or price, left out where it is 0: gives the place of the next byte.
-pub fn amount_byte(b: u8, bytes: &mut [u8; LONGEST], at: usize) -> usize
-    requires { (at < 919) × (length bytes.old ≡ 919) }
-    ensures { Overlays (amount_byte b) bytes.old at 0 result bytes.new }
-{
-    if 0 < b {
-        bytes[at] = b;
-        return at + 1;
+    // A byte; where it does not pass its test it is refused.
+    pub fn checked(&mut self, b: u8, passes: bool, refusal: Refusal) -> Result<(), Refusal>
+        requires { self.old.at < 919 }
+        ensures { Overlays (checked passes (number refusal) b) self.old result self.new }
+    {
+        if !passes {
+            return Err(refusal);
+        }
+        self.put(b);
+        Ok(())
     }
-    at
-}
 
-// A bit map, refused where a condition is on an absent timer.
-pub fn map_byte(map: u8, timers: u8, bytes: &mut [u8; LONGEST], at: usize) -> Next
-    requires { (timers ≤ 3) × (at < 919) × (length bytes.old ≡ 919) }
-    ensures { Overlays (map_byte timers map) bytes.old at result.refusal result.next bytes.new }
-{
-    let limit = names(timers);
-    let first = map / 2 % 8 < limit;
-    let further = map / 16 % 8 < limit;
-    checked(map, first & further, ABSENT_TIMER, bytes, at)
+    // A count, a goal or a ceiling from least to most.
+    pub fn counted(&mut self, b: u8, least: u8, most: u8) -> Result<(), Refusal>
+        requires { self.old.at < 919 }
+        ensures { Overlays (checked (between least most b) 2 b) self.old result self.new }
+    {
+        self.checked(b, between(b, least, most), Refusal::OutOfRange)
+    }
+
+    // The same as `checked`, left out where it is 0.
+    pub fn unless_zero(&mut self, b: u8, passes: bool, refusal: Refusal) -> Result<(), Refusal>
+        requires { self.old.at < 919 }
+        ensures { Overlays (unless_zero passes (number refusal) b) self.old result self.new }
+    {
+        if b == 0 {
+            return Ok(());
+        }
+        self.checked(b, passes, refusal)
+    }
+
+    // A byte of a rate or price, left out where it is 0.
+    pub fn amount_byte(&mut self, b: u8)
+        requires { self.old.at < 919 }
+        ensures { Overlays (amount_byte b) self.old (Ok tt) self.new }
+    {
+        if 0 < b {
+            self.put(b);
+        }
+    }
+
+    // A bit map, refused where a condition is on an absent timer.
+    pub fn map_byte(&mut self, map: u8, timers: u8) -> Result<(), Refusal>
+        requires { (timers ≤ 3) × (self.old.at < 919) }
+        ensures { Overlays (map_byte timers map) self.old result self.new }
+    {
+        let limit = names(timers);
+        let first = map / 2 % 8 < limit;
+        let further = map / 16 % 8 < limit;
+        self.checked(map, first & further, Refusal::AbsentTimer)
+    }
 }

@@ -6,7 +6,7 @@ use Rattle.parts.proofs.bits.Goals as goal
 pub returns-clause-is : goal.returns-clause-is
 returns-clause-is c =
     let a = c.args in
-    let whole = bits-six a.low a.last a.six c.requires in
+    let whole = bits-six a.low a.last a.six (omega arith) in
     omega (
       arith,
       whole,

@@ -23,9 +23,6 @@ pub record Rising (nodes node : ℕ) (ws ws' : List ℕ) (x : ℕ) : Type 0 wher
   pub outside : slot_at ws' 0 ≡ slot_at ws 0
 
 module _ (nodes node : ℕ) (ws : List ℕ) (there : node < nodes) where
-  pub rising-start : QueueRoom nodes ws → Rising nodes node ws ws ((nodes + node) / 2)
-  rising-start s = record { costs = refl; words = s; inside = omega arith; raising = λ upto r. r; outside = refl }
-
   -- The match at x, between the node and who is in its slot.
   module _
       (ws' : List ℕ) (x : ℕ) (one : 1 ≤ x) (up : Rising nodes node ws ws' x) (own w : ℕ) (r : Bool) (mine : own ≡ key_in ws node)

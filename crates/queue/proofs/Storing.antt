@@ -11,7 +11,7 @@ use Rattle.semantics.specs.Order.{cost}
 use Rattle.semantics.specs.Paths.Words.{stored}
 use Rattle.queue.specs.Tournament.{AllFair}
 use Rattle.queue.specs.Tournaments.Raising.{raise-start}
-use Rattle.queue.specs.Queue.{lows, slot_at, players, Seated, QueueRoom, LowerReady, LowerDone}
+use Rattle.queue.specs.Queue.{lows, slot_at, players, LowerReady, LowerDone}
 use Rattle.queue.specs.Playing.{GoneUp}
 use Rattle.queue.specs.Laws.Lows.{lows-length, lows-set-charge, lows-set-steps}
 use Rattle.queue.specs.Laws.Pendings.{own-leaves}
@@ -57,18 +57,6 @@ module _ (nodes v charge steps : ℕ) (ws : List ℕ) (low : LowerReady nodes v 
 
   cost-slots : slot_at ws ≡ slot_at us
   cost-slots = λ i z. sym (cost-slot z) i
-
-  pub cost-words : QueueRoom nodes us
-  cost-words =
-      let s = low.relax.queue.words in
-      record {
-        two = s.two;
-        few = s.few;
-        room =
-            omega
-            (arith, s.room, length-set ws (2 * v) charge, length-set (set ws (2 * v) charge) (2 * v + 1) (slot_at ws v * 65536 + steps));
-        slots = λ z o k. subst (λ (a : ℕ). Seated nodes a) (sym (cost-slot z)) (s.slots z o k);
-      }
 
   pub lowered : (ws' : List ℕ) → GoneUp nodes v us ws' → LowerDone nodes v charge steps ws ws'
   lowered ws' up =

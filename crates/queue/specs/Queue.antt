@@ -1,7 +1,7 @@
 -- The priority queue of a search: a tournament of its nodes, kept in the words of the search. Node v has its charge at word 2v and, in word 2v + 1,
 -- its steps in the low 16 bits; the high 16 bits of word 2x + 1 are slot x of the tournament.
 -- Assumes nothing.
-use Rattle.std.specs.Prelude.{◌≡◌, Bool, false, cond, ◌⊎◌, ◌≢◌, List, [], ◌∷◌, ℕ, zero, suc, ◌+◌, ◌*◌, ◌/◌, ◌%◌, ◌≤◌, ◌<◌, eqb, leb, length, get_or}
+use Rattle.std.specs.Prelude.{◌≡◌, Bool, false, cond, ◌⊎◌, ◌≢◌, List, [], ◌∷◌, ℕ, zero, suc, ◌+◌, ◌*◌, ◌/◌, ◌%◌, ◌≤◌, ◌<◌, eqb, ltb, leb, Option, Some, None, length, get_or}
 use Rattle.semantics.specs.Order.{Cost, cost, ◌≼◌, ◌≺◌}
 use Rattle.semantics.specs.Graph.Path.{infinity, charge_at, steps_at}
 use Rattle.semantics.specs.Paths.Words.{stored}
@@ -17,6 +17,10 @@ lows (suc n) (c ∷ k ∷ ws) = c ∷ k % 65536 ∷ lows n ws
 -- Slot x.
 abbrev pub slot_at : List ℕ → ℕ → ℕ
 slot_at ws x = get_or ws (2 * x + 1) 0 / 65536
+
+-- The node that a slot holds, if it does not hold nobody.
+abbrev pub as_node : ℕ → Option ℕ
+as_node a = cond (ltb a none) (Some a) None
 
 -- Nodes are settled in the order of charge, then of steps, then of their numbers. Steps and numbers have 16 bits, so that is the order of one number.
 abbrev pub key_of : ℕ → ℕ → ℕ → ℕ

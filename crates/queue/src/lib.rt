@@ -6,7 +6,7 @@
 ghost use Rattle.std.specs.Prelude.{◌≡◌, suc, ◌+◌, ◌*◌, ◌%◌, ◌≤◌, ◌<◌, length};
 ghost use Rattle.semantics.specs.Graph.Path.{charge_at, steps_at};
 ghost use Rattle.queue.specs.Tournament.{none, winner};
-ghost use Rattle.queue.specs.Queue.{lows, slot_at, players, QueueRoom, RelaxReady, RelaxDone, LowerReady, LowerDone, SettleReady, SettleDone};
+ghost use Rattle.queue.specs.Queue.{lows, slot_at, as_node, players, QueueRoom, RelaxReady, RelaxDone, LowerReady, LowerDone, SettleReady, SettleDone};
 ghost use Rattle.queue.specs.Playing.{key_in, Seat, Told, put, Place, GoneUp};
 
 // Nobody: what a slot holds if no node below it is pending.
@@ -44,9 +44,9 @@ fn key(words: &[u32], node: u32) -> u64
     ensures { result ≡ key_in words.now node }
 {
     let at = node as usize;
-    let charge = charge_of(words, at) as u64;
-    let steps = steps_of(words, at) as u64;
-    (charge * 65536 + steps) * 65536 + node as u64
+    let charge = u64::from(charge_of(words, at));
+    let steps = u64::from(steps_of(words, at));
+    (charge * 65536 + steps) * 65536 + u64::from(node)
 }
 
 // A slot of the tournament.
@@ -65,12 +65,17 @@ fn set_slot(words: &mut [u32], place: u32, node: u32)
     words[at] = node * HALF + words[at] % HALF;
 }
 
-// The first of the pending nodes, or NONE.
-pub fn first(words: &[u32]) -> usize
+// The first of the pending nodes.
+pub fn first(words: &[u32]) -> Option<usize>
     requires { 3 < length words.now }
-    ensures { result ≡ slot_at words.now 1 }
+    ensures { result ≡ as_node (slot_at words.now 1) }
 {
-    slot(words, 1) as usize
+    let node = slot(words, 1);
+    if node < NONE {
+        Some(node as usize)
+    } else {
+        None
+    }
 }
 
 // Whether who is in a slot comes before this key; nobody does not.

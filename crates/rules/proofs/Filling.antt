@@ -45,9 +45,6 @@ row_kept cs row rs rs' same is = record {
 }
 
 module _ (t : List ℕ) (at stride row : ℕ) (rs : List ℕ) where
-  pub filled_none : FilledRows (condition_bytes t at stride) 0 row rs rs
-  filled_none = record { size = refl; there = λ k l. absurd (omega arith); before = λ j l. refl; behind = λ j l. refl }
-
   pub filled_more :
       (i : ℕ) (rs' rs'' bytes : List ℕ) → bytes ≡ row_of (conditions_from 0 (take 6 (drop (at + stride * i) t)))
       → Wrote (λ k. get_or bytes k 0) (6 * (row + i)) 6 rs' rs'' → FilledRows (condition_bytes t at stride) i row rs rs' → FilledRows (condition_bytes t at stride) (i + 1) row rs rs''

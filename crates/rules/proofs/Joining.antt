@@ -20,14 +20,6 @@ use Rattle.rules.specs.Making.{Joins, JoinedRow, JoinedRows}
 
 -- One timer after another.
 module _ (resets row target : ℕ) (rs : List ℕ) where
-  pub row-none : JoinedRow resets row target 0 rs rs
-  row-none = record {
-    size = refl;
-    there = record { low = λ x l. absurd (omega arith); high = λ x l. absurd (omega arith) };
-    before = λ j l. refl;
-    behind = λ j l. refl;
-  }
-
   module _ (other : target < row) (inside : 6 * row + 6 ≤ length rs) (i : ℕ) (few : i < 3) (rs' : List ℕ) (w : JoinedRow resets row target i rs rs')
       (low high : ℕ) (low-is : low ≡ joined_low (stands resets i) (low_at rs' row i) (low_at rs' target i))
       (high_is : high ≡ joined_high (stands resets i) (high_at rs' row i) (low_at rs' target i) (high_at rs' target i)) where
@@ -118,9 +110,6 @@ move-resets t e byte is = ap named_timers is ∙ sym (ap (λ (m : Move). m.reset
 
 -- One move after another.
 module _ (a : Automaton) (rs : List ℕ) where
-  pub rows_none : JoinedRows a 0 rs rs
-  rows_none = record { size = refl; there = λ e l. absurd (omega arith); before = λ j l. refl; behind = λ j l. refl }
-
   module _ (e : ℕ) (rs' rs'' : List ℕ) (w : JoinedRows a e rs rs') (byte target : ℕ) (names : named_timers byte ≡ (move_at a e).resets)
       (leads : target ≡ (move_at a e).target) (few : target < 16) (row : JoinedRow byte (16 + e) target 3 rs' rs'') where
     -- The move's row and its target's were as in rs.

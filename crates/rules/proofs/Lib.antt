@@ -1,5 +1,4 @@
 -- The laws that the functions' proofs cite.
-pub mod TimerTests
 pub mod Writing
 pub mod Filling
 pub mod Joining

@@ -11,7 +11,7 @@ use lib.Seq.{get_or-set_same, get_or-set_other}
 use Rattle.semantics.specs.Automaton.{Automaton, move_at}
 use Rattle.table.specs.Held.{automaton_of, IsTable}
 use Rattle.table.specs.Theorems.Access.{table-proper, source-below, mode-count, counts}
-use Rattle.rules.specs.Rules.{first_of, after_of, none, FirstFrom}
+use Rattle.rules.specs.Rules.{first_of, after_of, FirstFrom}
 use Rattle.rules.specs.Making.{OrderedFrom}
 
 -- A table has few modes and moves, and the mode that a move leaves is there.
@@ -47,20 +47,6 @@ module _ (a : Automaton) where
       at k l u h (no o) = f.none_before k (omega arith) u h
 
   module _ (rs : List ℕ) (few : length a.moves ≤ 64) where
-    pub ordered-none : ((m : ℕ) → m < length a.modes → first_of rs m ≡ none) → OrderedFrom a (length a.moves) rs rs
-    ordered-none empty = record {
-      size = refl;
-      first = λ m l. alike m (length a.moves) (empty m l) (last m);
-      after = λ k l h. absurd (omega arith);
-      before = λ j l. refl;
-      spare-modes = λ m l h. refl;
-      earlier = λ k l. refl;
-      behind = λ k l. refl;
-    }
-      where
-        last : (m : ℕ) → FirstFrom a m (length a.moves) none
-        last m = record { from = few; few = omega arith; there = λ h. absurd (omega arith); none_before = λ k l u h. absurd (omega arith) }
-
     -- Move e is put before those of its mode.
     module _ (few-modes : length a.modes ≤ 16) (long : length rs ≡ 560) (rs' : List ℕ) (e mode : ℕ) (there : e < length a.moves)
         (own : mode ≡ (move_at a e).source) (mode-there : mode < length a.modes) (w : OrderedFrom a (e + 1) rs rs') where

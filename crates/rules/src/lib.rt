@@ -85,12 +85,10 @@ pub fn all_inside(rules: &[u8; RULES], row: usize, halves: [u8; MOST_TIMERS]) ->
     requires { row < 80 }
     ensures { (result ≡ true) ↔ InRow rules.now row halves }
 {
-    for timer in 0..MOST_TIMERS {
-        if !inside(rules, row, timer, halves[timer]) {
-            return false;
-        }
-    }
-    true
+    halves
+        .iter()
+        .enumerate()
+        .all(|(timer, half)| inside(rules, row, timer, *half))
 }
 
 // The number of a timer's window, three to a row; a window has two bytes. The unit's core multiplies in 32 bits.

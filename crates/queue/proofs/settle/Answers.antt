@@ -19,10 +19,6 @@ outside c b =
     let r = loop.invariant.1 in
     (put-puts n loop.words r.words (loop.place / 2) b (omega (arith, r.high))).others 0 (omega arith) ∙ loop.invariant.2
 
-pub key-settled-requires : goal.key-settled-requires
-key-settled-requires c =
-    (omega (arith, c.requires.there, c.requires.queue.words), omega (arith, c.requires.there, c.requires.queue.words))
-
 pub loop-place-init : goal.loop-place-init
 loop-place-init c =
     let n = c.args.nodes in
@@ -30,11 +26,6 @@ loop-place-init c =
     let e : c.key-settled.result ≡ key (lows n ws) c.args.node =
     c.key-settled.ensures ∙ sym (key-lows n ws (lows n ws) c.args.node refl c.requires.there) in
     (e, replayed-start n c.args.node c.key-settled.result ws c.requires e, refl)
-
-pub winner-other-requires : goal.winner-other-requires
-winner-other-requires c =
-    let r = c.loop-place.invariant.1 in
-    record { words = r.words; low = omega (arith, r.low, r.high); high = omega (arith, r.low, r.high) }
 
 -- Who has won at the other place may be tested.
 other-seat : (c : After-winner-other) → Seat c.loop-place.words c.winner-other.result

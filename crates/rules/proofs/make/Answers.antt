@@ -1,10 +1,7 @@
 -- `rules::make` meets its contract. Assumes nothing.
-use mathlib.Core.Path.{refl, ◌∙◌}
-use native.Mathlib.Omega.{arith}
+use mathlib.Core.Path.{refl}
 use lib.ListN.{replicate}
 use Rattle.semantics.specs.Regions.Lists.{replicate-zero}
-use Rattle.table.specs.Theorems.Access.{table-length}
-use Rattle.rules.proofs.Ordering.{modes-few, moves-few}
 use Rattle.rules.proofs.Whole.{is-rules}
 use Rattle.rules.proofs.make.Goals as goal
 

@@ -1,5 +1,4 @@
 -- `rules::order::no_moves` meets its contract. Assumes nothing.
-use mathlib.Core.Path.{◌≡◌, refl}
 use native.Mathlib.Omega.{arith}
 use Rattle.rules.proofs.Writing.{filled_with}
 use Rattle.rules.proofs.order.no_moves.Goals as goal

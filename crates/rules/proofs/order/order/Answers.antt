@@ -5,13 +5,8 @@ use native.Mathlib.Omega.{arith}
 use lib.ListN.{length}
 use Rattle.table.specs.Held.{automaton_of}
 use Rattle.table.specs.Theorems.Access.{source-below}
-use Rattle.rules.proofs.Ordering.{modes-few, moves-few, ordered-none, ordered-more}
+use Rattle.rules.proofs.Ordering.{modes-few, moves-few, ordered-more}
 use Rattle.rules.proofs.order.order.Goals as goal
-
-pub loop-e-init : goal.loop-e-init
-loop-e-init c =
-    let t = c.args.table.now in
-    rw c.moves-e.ensures (ordered-none (automaton_of t.bytes) c.args.rules.now (moves-few t.bytes t.is_table) c.requires)
 
 pub loop-e-preserved : goal.loop-e-preserved
 loop-e-preserved c =
@@ -21,8 +16,3 @@ loop-e-preserved c =
     let up : c.loop-e.e ≡ e + 1 = omega arith in
     ordered-more (automaton_of t.bytes) c.args.rules.now (moves-few t.bytes t.is_table) (modes-few t.bytes t.is_table) c.told-rules c.loop-e.rules e _ there
     c.source-mode.ensures (omega (arith, source-below t.bytes t.is_table e there, c.source-mode.ensures)) (rw up at c.loop-e.invariant)
-
-pub returns : goal.returns
-returns c =
-    let all : c.loop-e.e ≡ 0 = omega arith in
-    rw all at c.loop-e.invariant

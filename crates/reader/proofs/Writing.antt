@@ -11,7 +11,7 @@ use lib.Seq.{sets, set-set, set_comm}
 use Rattle.table.specs.Fields.{amount_of}
 use Rattle.table.specs.Held.{flat, mode_bytes, move_bytes}
 use Rattle.table.specs.Theorems.Holding.{flat_append, low_of, high-of}
-use Rattle.reader.specs.Step.{Wrote, WrotePriced, WroteResets}
+use Rattle.reader.specs.Step.{Wrote, WrotePriced}
 
 sets-append : (xs ys t : List ℕ) (at : ℕ) → sets t at (xs ++ ys) ≡ sets (sets t at xs) (at + length xs) ys
 sets-append [] ys t at = ap (λ (k : ℕ). sets t k ys) (sym (add-zero at))
@@ -75,11 +75,11 @@ wrote-mode {low = low} high {cs = cs} w e =
     rw (low_of low high w.low, high-of low high w.low) (wrote-over (low ∷ []) 0 high cs w.wrote e)
 
 -- The high byte of a move record comes last.
-pub wrote-move : {at source target low reset v : ℕ} (high : ℕ) {t t₁ t₂ t₃ t₄ cs : List ℕ} → Wrote 2 t at t₁ (source ∷ target ∷ []) →
-    WrotePriced t₁ (at + 2) t₂ (low, cs) → WroteResets v t₂ (at + 10) t₃ reset → t₄ ≡ set t₃ (at + 2 + 1) high →
+pub wrote-move : {at source target low : ℕ} (high reset : ℕ) {t t₁ t₂ t₃ t₄ cs : List ℕ} → Wrote 2 t at t₁ (source ∷ target ∷ []) →
+    WrotePriced t₁ (at + 2) t₂ (low, cs) → Wrote 2 t₂ (at + 10) t₃ (reset % 8 ∷ 0 ∷ []) → t₄ ≡ set t₃ (at + 2 + 1) high →
     Wrote 12 t at t₄ (move_bytes (record { source = source; target = target; price = amount_of low high; conditions = cs; resets = reset % 8 }))
-wrote-move {at} {source} {target} {low} {reset} high {t₃ = t₃} {cs = cs} ends w u e =
+wrote-move {at} {source} {target} {low} high reset {t₃ = t₃} {cs = cs} ends w u e =
     let place : at + 2 + 1 ≡ at + 3 = omega arith in
     rw (low_of low high w.low, high-of low high w.low)
-    (wrote-over (source ∷ target ∷ low ∷ []) 0 high (cs ++ reset % 8 ∷ 0 ∷ []) (wrote_then (wrote_then ends w.wrote) u.wrote)
+    (wrote-over (source ∷ target ∷ low ∷ []) 0 high (cs ++ reset % 8 ∷ 0 ∷ []) (wrote_then (wrote_then ends w.wrote) u)
     (e ∙ ap (λ (k : ℕ). set t₃ k high) place))

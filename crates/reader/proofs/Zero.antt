@@ -1,25 +1,22 @@
 -- Conditions with every timer at 0: a test of each condition byte.
 -- Assumes nothing.
-use Prim.Native.Nat.{ℕ, zero, suc, ◌*◌, ◌-◌, ◌/◌, ◌%◌, ◌≤◌, ◌<◌}
+use Prim.Native.Nat.{ℕ, suc, ◌*◌, ◌-◌, ◌/◌, ◌%◌, ◌≤◌}
 use native.Mathlib.Nat.{one-mul}
 use native.Mathlib.Omega.{arith}
 use native.Mathlib.Decide.{ℕ_discrete}
-use mathlib.Core.Path.{◌≡◌, refl, sym, ap, ◌∙◌}
-use mathlib.Core.Bool.{Bool, true, false, cond, ◌&&◌, and-true, and-false}
+use mathlib.Core.Path.{◌≡◌, refl, sym, ap, ap₂, ◌∙◌}
+use mathlib.Core.Bool.{Bool, true, false, cond, ◌&&◌, and-true}
 use mathlib.Core.List.{List, [], ◌∷◌}
 use borrow.Author.Tests.{eq-eqb, ne_eqb, lt-ltb, le-ltb, le-leb, lt-leb}
 use lib.Dec.{eqb, ltb}
-use lib.ListN.{length, get_or, take, get_or-eq_default}
+use lib.ListN.{get_or-eq_default}
+use Rattle.std.specs.List.{list_all}
 use Rattle.semantics.specs.Condition.{greater, compares, hold_at_zero}
 use Rattle.table.specs.Meaning.{comparisons, comparison_of, conditions_from}
 
 -- A condition byte, or 0 for none, holds at 0.
 abbrev pub zero_test : ℕ → Bool
 zero_test b = cond (eqb b 0) true (compares (comparison_of (b / 16)) 0 (1 * (b % 16)))
-
-abbrev pub every : (ℕ → Bool) → List ℕ → Bool
-every f [] = true
-every f (x ∷ xs) = f x && every f xs
 
 zero-cons : (place b : ℕ) (l : List ℕ) → hold_at_zero (conditions_from place (b ∷ l)) ≡ zero_test b && hold_at_zero (conditions_from (suc place) l)
 zero-cons place b l = go (eqb b 0) refl
@@ -28,30 +25,20 @@ zero-cons place b l = go (eqb b 0) refl
     go true e = rw e
     go false e = rw e
 
-pub zero-every : (place : ℕ) (l : List ℕ) → hold_at_zero (conditions_from place l) ≡ every zero_test l
+pub zero-every : (place : ℕ) (l : List ℕ) → hold_at_zero (conditions_from place l) ≡ list_all zero_test l
 zero-every place [] = refl
 zero-every place (b ∷ l) = zero-cons place b l ∙ ap (λ (t : Bool). zero_test b && t) (zero-every (suc place) l)
 
 pub zero_one : (place b : ℕ) → hold_at_zero (conditions_from place (b ∷ [])) ≡ zero_test b
 zero_one place b = zero-every place (b ∷ []) ∙ and-true (zero_test b)
 
--- One more element.
-pub every_more : (f : ℕ → Bool) (l : List ℕ) (i : ℕ) → i < length l → every f (take (suc i) l) ≡ every f (take i l) && f (get_or l i 0)
-every_more f [] i h = absurd (omega arith)
-every_more f (x ∷ l) zero h = and-true (f x)
-every_more f (x ∷ l) (suc i) h = go (f x) (every_more f l i (omega arith))
+-- The bytes one by one.
+pub zero-each : (l : List ℕ) → list_all (λ b. hold_at_zero (conditions_from 0 (b ∷ []))) l ≡ hold_at_zero (conditions_from 0 l)
+zero-each l = go l ∙ sym (zero-every 0 l)
   where
-    go : (t : Bool) → every f (take (suc i) l) ≡ every f (take i l) && f (get_or l i 0) →
-        t && every f (take (suc i) l) ≡ t && every f (take i l) && f (get_or l i 0)
-    go true e = e
-    go false e = refl
-
--- An element that fails.
-pub every-fails : (f : ℕ → Bool) (l : List ℕ) (n i : ℕ) → i < length l → i < n → f (get_or l i 0) ≡ false → every f (take n l) ≡ false
-every-fails f [] n i h k e = absurd (omega arith)
-every-fails f (x ∷ l) zero i h k e = absurd (omega arith)
-every-fails f (x ∷ l) (suc n) zero h k e = rw e
-every-fails f (x ∷ l) (suc n) (suc i) h k e = rw (every-fails f l n i (omega arith) (omega arith) e) (and-false (f x))
+    go : (l : List ℕ) → list_all (λ b. hold_at_zero (conditions_from 0 (b ∷ []))) l ≡ list_all zero_test l
+    go [] = refl
+    go (b ∷ l) = ap₂ (λ (s t : Bool). s && t) (zero_one 0 b) (go l)
 
 -- The test by the code, b / 16, and the value, b % 16.
 present : (b k : ℕ) → b / 16 ≡ suc k → eqb b 0 ≡ false

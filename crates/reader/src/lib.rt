@@ -1,12 +1,13 @@
-// Layer 1: from the bytes of a table to its fields at fixed offsets, or to the number of a refusal.
+// Layer 1: from the bytes of a table to its fields at fixed offsets, or to a refusal.
 #![tactic(auto)]
 
 ghost use Rattle.std.specs.Prelude.{◌≡◌, replicate};
 ghost use Rattle.reader.specs.Read.{read};
-ghost use Rattle.reader.specs.Reading.{Reading};
+ghost use Rattle.reader.specs.Reading.{Reading, IsTableOf, told};
 ghost use Rattle.reader.specs.Step.{Judges};
 
-use table::SIZE;
+use table::refusals::Refusal;
+use table::{SIZE, Table};
 
 mod fields;
 mod records;
@@ -18,57 +19,38 @@ pub const CONDITIONS: usize = 6;
 // The bytes of the longest table.
 pub const LONGEST: usize = 919;
 
-// The refusals of document 01 by their numbers.
-pub const NO_BYTE_LEFT: u8 = 1;
-
-pub const OUT_OF_RANGE: u8 = 2;
-
-pub const ABSENT_TIMER: u8 = 3;
-
-pub const BAD_CODE: u8 = 4;
-
-pub const NO_SUCH_MODE: u8 = 5;
-
-pub const BYTES_LEFT_OVER: u8 = 6;
-
-pub const START_FAILS: u8 = 7;
-
-// The bytes are a table, or they are refused by document 01's number.
-#[derive(Clone, Copy)]
-pub enum Verdict {
-    Accepted,
-    Refused(u8),
-}
-
 // Reads a table from its bytes, or refuses them and leaves every byte of the table 0.
-pub fn read(bytes: &[u8], table: &mut [u8; SIZE]) -> Verdict
-    ensures { Reading (read bytes.now) result table.new }
+pub fn read(bytes: &[u8], table: &mut [u8; SIZE]) -> Result<(), Refusal>
+    ensures { Reading (read bytes.now) (told result) table.new }
 {
     *table = [0; SIZE];
-    let refusal = judged(bytes, table);
-    if refusal != 0 {
+    if let Err(refusal) = judged(bytes, table) {
         *table = [0; SIZE];
-        return Verdict::Refused(refusal);
+        return Err(refusal);
     }
-    Verdict::Accepted
+    Ok(())
 }
 
-// The number of the refusal, or 0 where the table holds what was read: the first fault decides among 1 to 5, then 6, then 7.
-fn judged(bytes: &[u8], table: &mut [u8; SIZE]) -> u8
+// The table that the bytes are.
+pub fn table_of(bytes: &[u8]) -> Result<Table, Refusal>
+    ensures { IsTableOf bytes.now result }
+{
+    let mut held = [0; SIZE];
+    read(bytes, &mut held)?;
+    Ok(Table { bytes: held })
+}
+
+// Reads a table into zeros: the first fault decides among 1 to 5, then 6, then 7.
+fn judged(bytes: &[u8], table: &mut [u8; SIZE]) -> Result<(), Refusal>
     requires { table.old ≡ replicate 904 0 }
     ensures { Judges bytes.now table.new result }
 {
-    let all = records::contents(bytes, table);
-    if all.refusal != 0 {
-        return all.refusal;
+    let next = records::contents(bytes, table)?;
+    if next < bytes.len() {
+        return Err(Refusal::BytesLeftOver);
     }
-    let over = all.next < bytes.len();
-    let starts = start::start_holds(table);
-    if over {
-        return BYTES_LEFT_OVER;
+    if !start::start_holds(table) {
+        return Err(Refusal::StartFails);
     }
-    if !starts {
-        return START_FAILS;
-    }
-    0
+    Ok(())
 }

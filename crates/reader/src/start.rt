@@ -1,5 +1,5 @@
 // Whether a table's start is allowed.
-ghost use Rattle.std.specs.Prelude.{◌≡◌, ◌∷◌, [], ◌≤◌, length, take, drop};
+ghost use Rattle.std.specs.Prelude.{◌≡◌, ◌∷◌, [], take, drop};
 ghost use Rattle.semantics.specs.Condition.{hold_at_zero};
 ghost use Rattle.table.specs.Meaning.{conditions_from};
 
@@ -22,13 +22,10 @@ fn holds_at_zero(condition: u8) -> bool
 
 // Whether the first mode's conditions hold with every timer at 0.
 pub fn start_holds(table: &[u8; SIZE]) -> bool
-    requires { 16 ≤ length table.now }
     ensures { result ≡ hold_at_zero (conditions_from 0 (take 6 (drop 10 table.now))) }
 {
-    for i in 0..CONDITIONS {
-        if !holds_at_zero(table[MODE_RECORDS + INVARIANT + i]) {
-            return false;
-        }
-    }
-    true
+    let first = MODE_RECORDS + INVARIANT;
+    table[first..first + CONDITIONS]
+        .iter()
+        .all(|&condition| holds_at_zero(condition))
 }

@@ -139,10 +139,10 @@ impl Table {
 
 // Two bytes as a number, the low one first.
 fn amount(table: &[u8; SIZE], at: usize) -> u16
-    requires { (at + 1 < 904) × (get_or table.now at 0 + 256 * get_or table.now (at + 1) 0 < 65536) }
+    requires { at + 1 < 904 }
     ensures { result ≡ get_or table.now at 0 + 256 * get_or table.now (at + 1) 0 }
 {
-    table[at] as u16 + 256 * table[at + HIGH] as u16
+    u16::from_le_bytes([table[at], table[at + HIGH]])
 }
 
 // Numbers below this one have bits for the first so many timers alone.

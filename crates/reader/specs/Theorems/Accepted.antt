@@ -6,11 +6,9 @@ use Rattle.semantics.specs.Distinct.{distinct}
 use Rattle.table.specs.Fields.{Fields}
 use Rattle.table.specs.Held.{held, fields_of, InRange, IsTable}
 use Rattle.table.specs.Theorems.Holding.{Shaped, held-table, fields-held}
-use Rattle.reader.specs.declared.Verdict.{Verdict}
-use Rattle.reader.specs.declared.Verdict.TheVariants.{Accepted, Refused}
 use Rattle.reader.specs.Layout.{Layout}
 use Rattle.reader.specs.Read.{Judgement, accepted, rejected, read}
-use Rattle.reader.specs.Reading.{verdict_of, Reading}
+use Rattle.reader.specs.Reading.{Verdict, Accepted, Refused, verdict_of, Reading}
 use Rattle.reader.specs.Theorems.Accepts.{accepts}
 use Rattle.reader.specs.Theorems.Limits.{accepted-bounded}
 use Rattle.reader.specs.Theorems.Rows.{row-all}

@@ -1,34 +1,32 @@
 -- `reader::fields::byte_within` meets its contract. Assumes nothing.
 use mathlib.Core.Path.{refl}
-use native.Mathlib.Omega.{arith}
-use Rattle.reader.specs.Step.{refuses, gives}
-use Rattle.reader.proofs.Giving.{within_none, within-below, within-above, within-right}
+use lib.ListN.{drop}
+use Rattle.reader.specs.Format.{any_byte, within}
+use Rattle.reader.proofs.Giving.{part-refused, known, passed-up, within-below, within-above, within-right}
 use Rattle.reader.proofs.fields.byte_within.Goals as goal
+use Rattle.reader.proofs.fields.byte_within.Goals.{then-byte-least-via-then-byte-least, then-byte-least-via-else-byte-least+then-most-byte}
 
-pub returns-then-bytes-from : goal.returns-then-bytes-from
-returns-then-bytes-from c =
-    let a = c.args in record {
-      gives = refuses (omega arith) (within_none a.bytes.now a.from a.number a.least a.most c.if-bytes-from.true);
-      range = λ z. absurd (omega arith);
-    }
+pub returns-in_err-byte : goal.returns-in_err-byte
+unfolding within
+returns-in_err-byte c =
+    let a = c.args in
+    passed-up c.from_residual.result _ _ _ c.from_residual.ensures.1
+    (part-refused any_byte _ (drop a.from a.bytes.now) c.in_err-byte.ensures)
 
-pub returns-then-b-least : goal.returns-then-b-least
-returns-then-b-least c =
-    let a = c.args in record {
-      gives = refuses (omega arith) (within-below a.bytes.now a.from a.number a.least a.most (omega arith) c.if-b-least.true);
-      range = λ z. absurd (omega arith);
-    }
-
-pub returns-then-most-b : goal.returns-then-most-b
-returns-then-most-b c =
-    let a = c.args in record {
-      gives = refuses (omega arith) (within-above a.bytes.now a.from a.number a.least a.most (omega arith) (omega arith) c.if-most-b.true);
-      range = λ z. absurd (omega arith);
-    }
+pub returns-then-byte-least : goal.returns-then-byte-least
+returns-then-byte-least c =
+    let a = c.args in
+    let s = drop a.from a.bytes.now in
+    let read = known c.in_ok-byte.ensures in
+    elim c.then-byte-least.branch [
+      | then-byte-least-via-then-byte-least w ↦ within-below s _ read _ a.least a.most w.if-byte-least.true
+      | then-byte-least-via-else-byte-least+then-most-byte w ↦ within-above s _ read _ a.least a.most w.if-byte-least.false w.if-most-byte.true
+    ]
 
 pub returns : goal.returns
 returns c =
     let a = c.args in record {
-      gives = gives _ refl (within-right a.bytes.now a.from a.number a.least a.most (omega arith) (omega arith) c.if-most-b.false) refl;
-      range = λ z. (omega arith, omega arith, refl);
+      value = _;
+      taken = within-right (drop a.from a.bytes.now) _ (known c.in_ok-byte.ensures) _ a.least a.most c.if-byte-least.false c.if-most-byte.false;
+      holds = refl;
     }

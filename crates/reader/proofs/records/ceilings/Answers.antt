@@ -1,36 +1,40 @@
--- `reader::records::ceilings` meets its contract. The loop has collected the first i ceilings. Assumes nothing.
-use Prim.Native.Nat.{ℕ, ◌+◌}
-use mathlib.Core.Path.{◌≡◌, refl, ap, ◌∙◌}
+-- `reader::records::ceilings` meets its contract. The loop has collected the ceilings before the place `at`. Assumes nothing.
+use Prim.Native.Nat.{◌+◌, ◌-◌}
+use mathlib.Core.Path.{◌≡◌}
 use native.Mathlib.Omega.{arith}
-use lib.ListN.{drop}
-use Rattle.reader.specs.Parser.{took}
-use Rattle.reader.specs.Step.{gives}
-use Rattle.reader.proofs.Writing.{wrote_none, wrote_then}
+use Rattle.reader.proofs.Giving.{passed-up}
+use Rattle.reader.proofs.Writing.{wrote_none, wrote-byte}
 use Rattle.reader.proofs.Collecting.{gathered_none, gathered-more, gathered-refused, gathered-all}
 use Rattle.reader.proofs.records.ceilings.Invariants.{ceiling}
 use Rattle.reader.proofs.records.ceilings.Goals as goal
 
-pub loop-i-init : goal.loop-i-init
-loop-i-init c = let a = c.args in gathered_none ceiling 0 a.timers a.bytes.now 4 (wrote_none _ _)
+pub loop-at-init : goal.loop-at-init
+loop-at-init c = let a = c.args in gathered_none ceiling 0 a.timers a.bytes.now 4 (wrote_none _ _)
 
-pub returns-then-refusal-ne0 : goal.returns-then-refusal-ne0
-returns-then-refusal-ne0 c =
+pub returns-in_err-copied : goal.returns-in_err-copied
+returns-in_err-copied c =
     let a = c.args in
-    gathered-refused ceiling 0 a.timers a.bytes.now 4 c.loop-i.invariant (omega arith) c.if-refusal-ne0.true c.copied-refusal.ensures
+    passed-up c.from_residual.result _ _ _ c.from_residual.ensures.1
+    (gathered-refused ceiling 0 a.timers a.bytes.now 4 c.loop-at.invariant (omega arith) c.in_err-copied.ensures)
 
-pub loop-i-preserved : goal.loop-i-preserved
-loop-i-preserved c =
+pub loop-at-preserved : goal.loop-at-preserved
+loop-at-preserved c =
     let a = c.args in
-    let further : 4 + c.loop-i.i + 1 ≡ 4 + (c.loop-i.i + 1) = omega arith in
-    rw (← further)
-    (gathered-more ceiling 0 a.timers a.bytes.now 4 c.loop-i.invariant (omega arith) c.if-refusal-ne0.false c.copied-refusal.ensures
-    (λ b l k w. wrote_then w (record { is = k.is; long = refl })))
+    let at = c.loop-at.at in
+    let further : at + 1 - 4 ≡ at - 4 + 1 = omega arith in
+    let place : 4 + (at - 4) ≡ at = omega arith in
+    rw further
+    (gathered-more ceiling 0 a.timers a.bytes.now 4 c.loop-at.invariant (omega arith) c.in_ok-copied.ensures
+    (λ b l k w. rw k.is (rw place at (wrote-byte k.value w))))
 
 pub returns : goal.returns
 returns c =
     let a = c.args in
-    let f = c.loop-i.invariant in
-    let all : c.loop-i.i ≡ a.timers = omega (arith, f.few) in
-    gives f.taken refl
-    (gathered-all ceiling 0 a.timers a.bytes.now 4 f (omega arith) ∙ ap (λ (k : ℕ). took f.taken (drop (4 + k) a.bytes.now)) all)
-    (rw all at f.hold)
+    let f = c.loop-at.invariant in
+    let all : c.loop-at.at - 4 ≡ a.timers = omega (arith, f.few) in
+    let behind : c.loop-at.at ≡ 4 + a.timers = omega (arith, f.few) in
+    record {
+      value = f.taken;
+      taken = rw behind at (gathered-all ceiling 0 a.timers a.bytes.now 4 f (omega arith));
+      holds = rw all at f.hold;
+    }

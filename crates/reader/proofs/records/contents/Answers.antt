@@ -1,40 +1,33 @@
 -- `reader::records::contents` meets its contract. Assumes nothing.
-use mathlib.Core.Path.{refl, ap}
+use mathlib.Core.Path.{refl}
 use native.Mathlib.Omega.{arith}
-use lib.ListN.{length}
+use Rattle.reader.proofs.Giving.{passed-up}
 use Rattle.reader.proofs.Whole.{counts-there, header_refused, ceilings-refused, modes-refused, all_held}
 use Rattle.reader.proofs.records.contents.Goals as goal
 
-pub header-refusal-requires : goal.header-refusal-requires
-header-refusal-requires c = omega (arith, ap length c.requires)
+pub returns-in_err-header : goal.returns-in_err-header
+returns-in_err-header c = passed-up c.from_residual.result _ _ _ c.from_residual.ensures.1 (header_refused _ c.in_err-header.ensures)
 
-pub returns-then-refusal-ne0 : goal.returns-then-refusal-ne0
-returns-then-refusal-ne0 c = header_refused c.header-refusal.ensures c.if-refusal-ne0.true
+pub ceilings-requires : goal.ceilings-requires
+ceilings-requires c = (counts-there c.in_ok-header.ensures.holds).2
 
-pub ceilings-c-requires : goal.ceilings-c-requires
-ceilings-c-requires c =
-    (counts-there c.if-refusal-ne0.false c.header-refusal.ensures).2
+pub returns-in_err-records : goal.returns-in_err-records
+returns-in_err-records c =
+    let up = c.from_residual-in_err-records in
+    passed-up up.result _ _ _ up.ensures.1 (ceilings-refused c.in_ok-header.ensures _ _ _ refl refl refl c.in_err-records.ensures)
 
-pub returns-then-c-ne0 : goal.returns-then-c-ne0
-returns-then-c-ne0 c =
-    ceilings-refused c.header-refusal.ensures c.if-refusal-ne0.false c.ceilings-c.result _ _ _ refl refl refl c.ceilings-c.ensures
-    c.if-c-ne0.true
+pub mode_records-requires : goal.mode_records-requires
+mode_records-requires c = omega (arith, counts-there c.in_ok-header.ensures.holds)
 
-pub mode_records-m-requires : goal.mode_records-m-requires
-mode_records-m-requires c =
-    omega (arith, counts-there c.if-refusal-ne0.false c.header-refusal.ensures)
-
-pub returns-then-m-ne0 : goal.returns-then-m-ne0
-returns-then-m-ne0 c =
-    modes-refused c.header-refusal.ensures c.if-refusal-ne0.false c.ceilings-c.result _ _ _ refl refl refl c.ceilings-c.ensures
-    c.if-c-ne0.false
-    c.mode_records-m.result c.mode_records-m.ensures c.if-m-ne0.true
+pub returns-in_err-further : goal.returns-in_err-further
+returns-in_err-further c =
+    let up = c.from_residual-in_err-further in
+    passed-up up.result _ _ _ up.ensures.1 (modes-refused c.in_ok-header.ensures _ _ _ refl refl refl c.in_ok-records.ensures c.in_err-further.ensures)
 
 pub move_records-requires : goal.move_records-requires
-move_records-requires c =
-    omega (arith, counts-there c.if-refusal-ne0.false c.header-refusal.ensures)
+move_records-requires c = omega (arith, counts-there c.in_ok-header.ensures.holds)
 
 pub returns : goal.returns
 returns c =
-    all_held c.header-refusal.ensures c.if-refusal-ne0.false c.ceilings-c.result _ _ _ refl refl refl c.ceilings-c.ensures c.if-c-ne0.false
-    c.mode_records-m.result c.mode_records-m.ensures c.requires c.if-m-ne0.false c.move_records.result c.move_records.ensures
+    all_held c.in_ok-header.ensures _ _ _ refl refl refl c.in_ok-records.ensures _ c.requires c.in_ok-further.ensures c.move_records.result
+    c.move_records.ensures

@@ -1,13 +1,13 @@
 -- `reader::records::high_byte` meets its contract. Assumes nothing.
-use mathlib.Core.Path.{ap}
-use Prim.Native.Nat.{ℕ}
-use lib.ListN.{set}
+use mathlib.Core.Path.{refl}
 use Rattle.reader.specs.Format.{amount_byte}
-use Rattle.reader.proofs.Giving.{gives_more}
+use Rattle.reader.proofs.Giving.{known, passed-up}
 use Rattle.reader.proofs.records.high_byte.Goals as goal
+
+pub returns-in_err-high : goal.returns-in_err-high
+unfolding amount_byte
+returns-in_err-high c = passed-up c.from_residual.result _ _ _ c.from_residual.ensures.1 c.in_err-high.ensures
 
 pub returns : goal.returns
 unfolding amount_byte
-returns c =
-    let a = c.args in
-    gives_more c.amount_byte-high.ensures (λ b e. ap (λ (v : ℕ). set a.table.now a.at v) e)
+returns c = record { value = _; taken = known c.in_ok-high.ensures; holds = refl }

@@ -1,6 +1,6 @@
 -- `table::Table::rate` meets its contract. Assumes nothing.
 use mathlib.Core.Path.{sym, ◌∙◌}
-use Rattle.table.specs.Theorems.Access.{mode-count, counts, rate-at, rate-within}
+use Rattle.table.specs.Theorems.Access.{mode-count, counts, rate-at}
 use native.Mathlib.Omega.{arith}
 use Rattle.table.proofs.Table.rate.Goals as goal
 
@@ -10,11 +10,5 @@ overflow_mul-mode c = omega (arith, mode-count c.args.self.now.bytes c.args.self
 pub overflow_add-mode : goal.overflow_add-mode
 overflow_add-mode c = omega (arith, mode-count c.args.self.now.bytes c.args.self.now.is_table, counts c.args.self.now.bytes c.args.self.now.is_table)
 
-pub amount-requires : goal.amount-requires
-amount-requires c =
-    let t = c.args.self.now.bytes in
-    let m = c.args.mode in
-    omega (arith, mode-count t c.args.self.now.is_table, counts t c.args.self.now.is_table, rate-at t c.args.self.now.is_table m c.requires, rate-within t c.args.self.now.is_table m c.requires)
-
 pub returns : goal.returns
-returns c = let a = c.args in c.amount.ensures ∙ sym (rate-at a.self.now.bytes c.args.self.now.is_table a.mode c.requires)
+returns c = let a = c.args in c.amount.ensures ∙ sym (rate-at a.self.now.bytes a.self.now.is_table a.mode c.requires)

@@ -3,7 +3,7 @@
 use Rattle.std.specs.Prelude.{ℕ, ◌+◌, ◌≡◌, cond, List, ◌++◌, eqb, length, take, drop, Result, Ok, Err}
 use Rattle.table.specs.declared.refusals.Refusal.{Refusal}
 use Rattle.table.specs.Refusals.{number}
-use Rattle.parts.specs.declared.Pen.{Pen}
+use Rattle.parts.specs.declared.pens.Pen.{Pen}
 use Rattle.parts.specs.Part.{Part}
 
 -- Where the part has a fault the array stays as it is; otherwise the part's bytes stand from the place on. Every other byte stays.

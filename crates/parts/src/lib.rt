@@ -10,7 +10,10 @@ ghost use Rattle.parts.specs.Format.{bit_of, bits_of, map_byte, amount_byte};
 ghost use Rattle.parts.specs.Compact.{first_of, further_of, compact};
 ghost use Rattle.parts.specs.Overlays.{Overlays};
 
-use reader::{CONDITIONS, LONGEST};
+mod pens;
+
+pub use pens::Pen;
+use reader::CONDITIONS;
 use table::names;
 use table::refusals::Refusal;
 
@@ -73,12 +76,6 @@ pub fn between(b: u8, least: u8, most: u8) -> bool
     ensures { result ≡ between least most b }
 {
     (least..=most).contains(&b)
-}
-
-// The bytes of a table as they are written, and the place of the next one.
-pub struct Pen {
-    pub bytes: [u8; LONGEST],
-    pub at: usize,
 }
 
 impl Pen {

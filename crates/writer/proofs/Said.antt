@@ -4,7 +4,8 @@ use Prim.Native.Nat.{ℕ, ◌+◌, ◌*◌, ◌≤◌, ◌<◌}
 use native.Mathlib.Omega.{arith}
 use mathlib.Core.Path.{◌≡◌, sym, ap, ◌∙◌}
 use mathlib.Core.List.{List, [], map}
-use lib.ListN.{length, get_or, drop, length-map, get_or-map}
+use lib.ListN.{length, get_or, take, drop, length-map, get_or-map}
+use Rattle.std.proofs.lemmas.List.{get_or-take}
 use lib.Seq.{get_or-drop, drop-drop}
 use Rattle.table.specs.Fields.{ModeFields, MoveFields}
 use Rattle.table.specs.Held.{records_from}
@@ -48,11 +49,11 @@ module _ (form : List ℕ) (n : ℕ) where
   moves-many = length-map (records_from move_said 18 n (drop 232 form)) compact_move ∙ record-count move_said 18 n (drop 232 form)
 
   module _ (i : ℕ) (h : i < n) where
-    pub ceiling-at : get_or ceilings_said i 0 ≡ get_or form (4 + i) 0
-    ceiling-at =
+    pub ceiling-at : (k : ℕ) → k ≡ n → get_or ceilings_said i 0 ≡ get_or (take k (drop 4 form)) i 0
+    ceiling-at k e =
         let place : 4 + 1 * i + 0 ≡ 4 + i = omega arith in
         record-at (λ u. get_or u 0 0) 1 n (drop 4 form) 0 i h ∙ ap (λ (l : List ℕ). get_or l 0 0) (drop-drop (1 * i) 4 form) ∙ get_or-drop (4 + 1 * i) form 0 0
-        ∙ ap (λ (j : ℕ). get_or form j 0) place
+        ∙ ap (λ (j : ℕ). get_or form j 0) place ∙ sym (get_or-drop 4 form i 0) ∙ sym (get_or-take k (drop 4 form) i 0 (omega arith))
 
     pub mode-at : get_or modes_said i mode_none ≡ compact_mode (mode_said (drop (8 + 14 * i) form))
     mode-at =
@@ -79,5 +80,5 @@ table-said form = rw (ceilings-many form (get_or form 1 0), modes-many form (get
 abbrev pub Counts : List ℕ → Type 0
 Counts form = (1 ≤ get_or form 0 0) × (get_or form 0 0 ≤ 16) × (get_or form 1 0 ≤ 3) × (get_or form 2 0 ≤ 64)
 
-pub counts : {r : ℕ} (form : List ℕ) → r ≡ (header (get_or form 0 0) (get_or form 1 0) (get_or form 2 0) (get_or form 3 0)).fault → r ≡ 0 → Counts form
-counts form e z = header-range (get_or form 0 0) (get_or form 1 0) (get_or form 2 0) (get_or form 3 0) (sym e ∙ z)
+pub counts : (form : List ℕ) → 0 ≡ (header (get_or form 0 0) (get_or form 1 0) (get_or form 2 0) (get_or form 3 0)).fault → Counts form
+counts form e = header-range (get_or form 0 0) (get_or form 1 0) (get_or form 2 0) (get_or form 3 0) (sym e)

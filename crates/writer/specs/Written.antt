@@ -1,13 +1,23 @@
 -- What writing answers and leaves in the destination, for every form and every number of bytes lent.
 -- Assumes nothing.
-use Rattle.std.specs.Prelude.{ℕ, cond, List, ◌++◌, leb, eqb, length, take, drop}
+use Rattle.std.specs.Prelude.{ℕ, cond, List, ◌++◌, leb, eqb, length, take, drop, Result, Ok, Err}
+use Rattle.table.specs.declared.refusals.Refusal.{Refusal}
+use Rattle.table.specs.Refusals.{number}
 use Rattle.reader.specs.Layout.{Layout}
 use Rattle.form.specs.Form.{said}
 use Rattle.parts.specs.Part.{Part}
 use Rattle.parts.specs.Format.{table}
 use Rattle.parts.specs.Compact.{compacted}
-use Rattle.writer.specs.declared.Written.{Written}
-use Rattle.writer.specs.declared.Written.TheVariants.{Bytes, Refused}
+
+-- The number of bytes that were written; or a refusal with its number.
+pub data Written : Type 0 where
+  Bytes : ℕ → Written
+  Refused : ℕ → Written
+
+-- What a call tells.
+abbrev pub told : Result ℕ Refusal → Written
+told (Ok n) = Bytes n
+told (Err e) = Refused (number e)
 
 -- The answer and the destination after a call.
 pub record Outcome : Type 0 where

@@ -1,15 +1,14 @@
 -- How what a function writes follows from what the functions that it calls write.
 -- Assumes nothing.
-use Rattle.std.specs.Prelude.{ℕ, ◌+◌, ◌*◌, ◌/◌, ◌%◌, ◌^◌, ◌≤◌, ◌<◌, ◌≡◌, refl, Bool, true, false, cond, ◌&&◌, List, [], ◌∷◌, ◌++◌, eqb, ltb, length, take, drop, set, Result, Ok, Err, IsOk}
-use Rattle.std.proofs.Common.{add-zero, add-one, arith, sym, ap, ◌∙◌, append_assoc, append-nil, eq-eqb, ne_eqb, eqb-true, lt-ltb, le-ltb, length-append, length-drop, take-append-drop, pow_mono, pow_pos, length-take-le, take_at}
-use Rattle.std.proofs.lemmas.List.{set_split}
+use Rattle.std.specs.Prelude.{ℕ, ◌+◌, ◌*◌, ◌^◌, ◌≤◌, ◌<◌, ◌≡◌, refl, Bool, true, false, cond, List, [], ◌∷◌, ◌++◌, eqb, length, take, drop, Result, Ok, Err, IsErrAnd}
+use Rattle.std.proofs.Common.{arith, sym, ap, ◌∙◌, append_assoc, append-nil, eq-eqb, ne_eqb, eqb-true, lt-ltb, le-ltb, length-append, pow_mono, pow_pos, length-take-le, take_at}
+use Rattle.std.proofs.lemmas.Result.{err_from_is_err_and}
 use Rattle.table.specs.declared.refusals.Refusal.{Refusal}
 use Rattle.table.specs.declared.refusals.Refusal.TheVariants.{NoByteLeft, OutOfRange, AbsentTimer, BadCode, NoSuchMode, BytesLeftOver, StartFails, TooManyNodes, TooFewWords, RouteTooLong, DestinationTooShort, NotClosed}
 use Rattle.table.specs.Refusals.{number}
-use Rattle.form.specs.Theorems.Appending.{append-then}
-use Rattle.parts.specs.declared.Pen.{Pen}
+use Rattle.parts.specs.declared.pens.Pen.{Pen}
 use Rattle.parts.specs.Part.{Part, nothing, checked, unless_zero, ◌then◌, each}
-use Rattle.parts.specs.Format.{bit_of, map_byte, amount_byte, reset_bits, reset_byte}
+use Rattle.parts.specs.Format.{bit_of, amount_byte, reset_bits, reset_byte}
 use Rattle.parts.specs.Overlays.{Overlays}
 use Rattle.parts.specs.Puts.{Puts}
 
@@ -53,27 +52,7 @@ some-number RouteTooLong h = omega arith
 some-number DestinationTooShort h = omega arith
 some-number NotClosed h = omega arith
 
--- One byte: refused, or put.
-module _ (passes : Bool) (b : ℕ) (pen : Pen) where
-  pub byte-refused : (e : Refusal) → passes ≡ false → Overlays (checked passes (number e) b) pen (Err e) pen
-  byte-refused e k = let some = ne_eqb (number e) 0 (some-number e) in rw k (record { fault = refl; place = rw some; array = rw some })
-
-  pub byte_put : (k : ℕ) → passes ≡ true → pen.at < length pen.bytes →
-      Overlays (checked passes k b) pen (Ok tt) (record { bytes = set pen.bytes pen.at b; at = pen.at + 1 })
-  byte_put k e h = rw e (record { fault = refl; place = refl; array = rw (add-one pen.at) (set_split pen.bytes pen.at b h) })
-
--- One that is left out where it is 0.
-module _ (passes : Bool) (k b : ℕ) {pen : Pen} where
-  pub zero_left : b ≡ 0 → Overlays (unless_zero passes k b) pen (Ok tt) pen
-  zero_left e =
-      rw (eq-eqb b 0 e)
-      (record { fault = refl; place = sym (add-zero pen.at); array = rw (add-zero pen.at) (sym (take-append-drop pen.at pen.bytes)) })
-
-  pub not-zero : {pen' : Pen} {r : Result (Unit {0}) Refusal} → (b ≡ 0 → ⊥) → Overlays (checked passes k b) pen r pen' →
-      Overlays (unless_zero passes k b) pen r pen'
-  not-zero z v = rw (ne_eqb b 0 z) v
-
--- It has at most one byte.
+-- A byte that is left out where it is 0: at most one.
 pub unless-short : (passes : Bool) (k b : ℕ) → length (unless_zero passes k b).bytes ≤ 1
 unless-short passes k b = go (eqb b 0)
   where
@@ -81,20 +60,15 @@ unless-short passes k b = go (eqb b 0)
     go true = omega arith
     go false = omega arith
 
--- A bit map.
-pub map-overlays : {limit : ℕ} {pen pen' : Pen} {r : Result (Unit {0}) Refusal} (n map : ℕ) → limit ≡ 2 ^ n →
-    Overlays (checked (ltb (map / 2 % 8) limit && ltb (map / 16 % 8) limit) 3 map) pen r pen' → Overlays (map_byte n map) pen r pen'
-map-overlays n map e v = rw (← e) v
-
 -- What was put by a function that writes a part of at most one byte where there is room for one.
 module _ {p : Part} {pen pen' : Pen} where
   abbrev pub PutBy : {r : Result (Unit {0}) Refusal} → Overlays p pen r pen' → Type 0
   PutBy {r = r} v = Puts 1 p pen r pen'
 
-  pub overlays-puts : {r : Result (Unit {0}) Refusal} (v : Overlays p pen r pen') → length p.bytes ≤ 1 → pen.at < length pen.bytes → PutBy v
-  overlays-puts {r = Ok a} v short room =
+  pub overlays-puts : {r : Result (Unit {0}) Refusal} (v : Overlays p pen r pen') → length p.bytes ≤ 1 → PutBy v
+  overlays-puts {r = Ok a} v short =
       let behind : length (take pen.at pen.bytes ++ p.bytes) ≡ pen.at + length p.bytes =
-      length-append (take pen.at pen.bytes) p.bytes ∙ ap (λ (k : ℕ). k + length p.bytes) (length-take-le pen.at pen.bytes (omega arith)) in
+      length-append (take pen.at pen.bytes) p.bytes ∙ ap (λ (k : ℕ). k + length p.bytes) (length-take-le pen.at pen.bytes pen.within) in
       let none = eq-eqb p.fault 0 (sym v.fault) in
       let next-is : pen'.at ≡ pen.at + length p.bytes = rw none at v.place in
       let array-is : pen'.bytes ≡ (take pen.at pen.bytes ++ p.bytes) ++ drop (pen.at + length p.bytes) pen.bytes =
@@ -102,40 +76,41 @@ module _ {p : Part} {pen pen' : Pen} where
       record {
         fault = v.fault;
         few = omega (arith, next-is);
-        put = record {
-          is = rw (next-is, array-is)
-              (take_at (take pen.at pen.bytes ++ p.bytes) (drop (pen.at + length p.bytes) pen.bytes) (pen.at + length p.bytes) behind);
-          long = rw (array-is, length-append, behind, length-drop) (omega arith);
-        };
+        put = rw (next-is, array-is)
+            (take_at (take pen.at pen.bytes ++ p.bytes) (drop (pen.at + length p.bytes) pen.bytes) (pen.at + length p.bytes) behind);
       }
-  overlays-puts {r = Err e} v short room = record { fault = v.fault; few = tt; put = tt }
+  overlays-puts {r = Err e} v short = record { fault = v.fault; few = tt; put = tt }
 
--- The array is as long as before.
-pub puts-long : {most n : ℕ} {p : Part} {pen pen' : Pen} → Puts most p pen (Ok tt) pen' → length pen.bytes ≡ n → length pen'.bytes ≡ n
-puts-long v e = v.put.long ∙ e
-
-module _ {pen pen' : Pen} where
-  -- A part behind a part that was put.
-  pub puts_then : {a b : ℕ} {r : Result (Unit {0}) Refusal} {p q : Part} {pen'' : Pen} → Puts a p pen (Ok tt) pen' → Puts b q pen' r pen'' →
-      Puts (a + b) (p then q) pen r pen''
-  puts_then {r = Ok u} {p = p} v w = record {
+module _ {pen pen' pen'' : Pen} {p q : Part} where
+  -- A part behind a part that was put, and behind one of at most one byte.
+  pub puts_then : {a b : ℕ} {r : Result (Unit {0}) Refusal} → Puts a p pen (Ok tt) pen' → Puts b q pen' r pen'' → Puts (a + b) (p then q) pen r pen''
+  puts_then {r = Ok u} v w = record {
     fault = w.fault ∙ rw (eq-eqb p.fault 0 (sym v.fault));
     few = omega (arith, v.few, w.few);
-    put = append-then v.put w.put;
+    put = w.put ∙ ap (λ (l : List ℕ). l ++ q.bytes) v.put ∙ append_assoc (take pen.at pen.bytes) p.bytes q.bytes;
   }
-  puts_then {r = Err e} {p = p} v w = record { fault = w.fault ∙ rw (eq-eqb p.fault 0 (sym v.fault)); few = tt; put = tt }
+  puts_then {r = Err e} v w = record { fault = w.fault ∙ rw (eq-eqb p.fault 0 (sym v.fault)); few = tt; put = tt }
 
-  -- A part that was refused refuses the whole.
-  pub puts-fault : {a b : ℕ} {e : Refusal} {p : Part} {pen'' : Pen} (q : Part) → Puts a p pen (Err e) pen' → Puts b (p then q) pen (Err e) pen''
-  puts-fault {e = e} {p = p} q v = record {
-    fault = v.fault ∙ rw (ne_eqb p.fault 0 (λ z. some-number e (v.fault ∙ z)));
-    few = tt;
-    put = tt;
-  }
+  pub byte_then : {b : ℕ} {r : Result (Unit {0}) Refusal} → Overlays p pen (Ok tt) pen' → length p.bytes ≤ 1 → Puts b q pen' r pen'' → Puts (1 + b) (p then q) pen r pen''
+  byte_then v short w = puts_then (overlays-puts v short) w
+
+module _ {pen pen' pen'' : Pen} {p : Part} {e : Refusal} {s : Result (Unit {0}) Refusal} {b : ℕ} (q : Part) where
+  -- A part that was refused refuses the whole; and so does a byte, by a `?`.
+  pub puts-fault : {a : ℕ} → Puts a p pen (Err e) pen' → IsErrAnd s (λ x. x ≡ e) → Puts b (p then q) pen s pen''
+  puts-fault v up =
+      let passed = err_from_is_err_and s up in
+      rw (passed.1, passed.2)
+      (record { fault = v.fault ∙ rw (ne_eqb p.fault 0 (λ z. some-number e (v.fault ∙ z))); few = tt; put = tt })
+
+  pub byte-fault : Overlays p pen (Err e) pen' → IsErrAnd s (λ x. x ≡ e) → Puts b (p then q) pen s pen''
+  byte-fault v up =
+      let passed = err_from_is_err_and s up in
+      rw (passed.1, passed.2)
+      (record { fault = v.fault ∙ rw (ne_eqb p.fault 0 (λ z. some-number e (v.fault ∙ z))); few = tt; put = tt })
 
 -- At most so many bytes are at most more.
-pub puts-wide : {a b : ℕ} {r : Result (Unit {0}) Refusal} {p : Part} {pen pen' : Pen} → Puts a p pen r pen' → (IsOk r → a ≤ b) → Puts b p pen r pen'
-puts-wide {r = Ok u} v h = record { fault = v.fault; few = omega (arith, v.few, h refl); put = v.put }
+pub puts-wide : {a b : ℕ} {r : Result (Unit {0}) Refusal} {p : Part} {pen pen' : Pen} → Puts a p pen r pen' → a ≤ b → Puts b p pen r pen'
+puts-wide {r = Ok u} v h = record { fault = v.fault; few = omega (arith, v.few); put = v.put }
 puts-wide {r = Err e} v h = record { fault = v.fault; few = tt; put = tt }
 
 -- The reset byte: refused, or put.

@@ -1,32 +1,30 @@
 -- `writer::write` meets its contract. Assumes nothing.
-use mathlib.Core.Path.{refl}
-use Rattle.parts.specs.Theorems.Putting.{puts-long}
+use Prim.Native.Nat.{ℕ}
+use mathlib.Core.Path.{refl, ap}
+use mathlib.Core.List.{List, ◌++◌}
+use lib.ListN.{drop}
+use Rattle.std.proofs.lemmas.Result.{err_from_is_err_and}
 use Rattle.writer.proofs.Placing.{write-refused, write-short, write-fits, write-lays}
 use native.Mathlib.Omega.{arith}
 use Rattle.writer.proofs.write.Goals as goal
 
-pub returns-then-all-ne0-clause-outcome : goal.returns-then-all-ne0-clause-outcome
-returns-then-all-ne0-clause-outcome c =
+pub returns-in_err-table : goal.returns-in_err-table
+returns-in_err-table c =
     let a = c.args in
-    write-refused a.form.now a.destination.now c.table-all.ensures c.if-all-ne0.true
+    let passed = err_from_is_err_and c.from_residual.result c.from_residual.ensures.1 in
+    rw (passed.1, passed.2) (record { outcome = write-refused a.form.now a.destination.now refl c.in_err-table.ensures; layout = tt })
 
 pub returns-then-destination-n-clause-outcome : goal.returns-then-destination-n-clause-outcome
 returns-then-destination-n-clause-outcome c =
     let a = c.args in
-    let z = c.if-all-ne0.false in
-    write-short a.form.now a.destination.now c.table-all.ensures z (puts-long c.table-all.ensures z refl) c.if-destination-n.true
-
-pub copy-requires : goal.copy-requires
-copy-requires c =
-    let z = c.if-all-ne0.false in
-    (omega (arith, c.table-all.ensures.few z), puts-long c.table-all.ensures z refl, omega (arith, c.if-destination-n.false))
+    write-short a.form.now a.destination.now refl c.in_ok-table.ensures c.if-destination-n.true
 
 pub returns : goal.returns
 returns c =
-    let a = c.args in
-    let z = c.if-all-ne0.false in
-    let long = puts-long c.table-all.ensures z refl in
+    let form = c.args.form.now in
+    let d = c.args.destination.now in
+    let copied = ap (λ (l : List ℕ). l ++ drop c.table.new.pen.at d) c.copy_from_slice.ensures.after in
     record {
-      outcome = write-fits a.form.now a.destination.now c.table-all.ensures z long (omega (arith, c.if-destination-n.false)) c.copy.ensures;
-      layout = write-lays a.form.now a.destination.now c.table-all.ensures z long c.copy.ensures;
+      outcome = write-fits form d refl c.in_ok-table.ensures (omega arith) copied;
+      layout = write-lays form d refl c.in_ok-table.ensures copied;
     }

@@ -7,8 +7,7 @@ use Rattle.semantics.specs.Distinct.{distinct}
 use Rattle.form.specs.Form.{said}
 use Rattle.parts.specs.Part.{Part}
 use Rattle.parts.specs.Compact.{compacted}
-use Rattle.writer.specs.declared.Written.TheVariants.{Bytes, Refused}
-use Rattle.writer.specs.Written.{outcome, table_said, written}
+use Rattle.writer.specs.Written.{Bytes, Refused, outcome, table_said, written}
 use Rattle.writer.specs.Theorems.Reads.{fault-range}
 
 abbrev Numbers : ℕ → Type 0

@@ -6,7 +6,7 @@ use Rattle.writer.proofs.Said.{modes_said}
 use Rattle.writer.proofs.records.mode_records.Given as goal
 
 abbrev pub invariant-loop-i : goal.invariant-loop-i
-invariant-loop-i l = Row 9 (mode_record l.timers) (modes_said l.form l.modes) l.initial.bytes l.at l.next l.bytes l.i
+invariant-loop-i l = Row 9 (mode_record l.timers) (modes_said l.form l.modes) l.initial.pen l.pen l.i
 
 abbrev pub decreases-loop-i : goal.decreases-loop-i
 decreases-loop-i l = l.modes - l.i

@@ -6,7 +6,7 @@ use Rattle.writer.proofs.Said.{moves_said}
 use Rattle.writer.proofs.records.move_records.Given as goal
 
 abbrev pub invariant-loop-i : goal.invariant-loop-i
-invariant-loop-i l = Row 12 (move_record l.modes l.timers) (moves_said l.form l.moves) l.initial.bytes l.at l.next l.bytes l.i
+invariant-loop-i l = Row 12 (move_record l.modes l.timers) (moves_said l.form l.moves) l.initial.pen l.pen l.i
 
 abbrev pub decreases-loop-i : goal.decreases-loop-i
 decreases-loop-i l = l.moves - l.i

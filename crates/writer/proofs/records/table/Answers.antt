@@ -1,65 +1,42 @@
 -- `writer::records::table` meets its contract. Assumes nothing.
-use mathlib.Core.Path.{◌≡◌}
-use Rattle.parts.specs.Theorems.Putting.{puts-long, puts_then, puts-fault, puts-wide}
-use Rattle.writer.proofs.Said.{table-said, Counts, counts}
+use Rattle.parts.specs.Theorems.Putting.{puts_then, puts-fault, puts-wide}
+use Rattle.writer.proofs.Said.{table-said, counts}
 use native.Mathlib.Omega.{arith}
-use Rattle.writer.proofs.records.table.Goals.{After-header-h}
 use Rattle.writer.proofs.records.table.Goals as goal
 
--- The counts of a header that was not refused.
-ranges : (c : After-header-h) → c.header-h.result.refusal ≡ 0 → Counts c.args.form.now
-ranges c z = counts c.args.form.now c.header-h.ensures.number z
+pub returns-in_err-header : goal.returns-in_err-header
+returns-in_err-header c = rw (table-said c.args.form.now) (puts-fault _ c.in_err-header.ensures c.from_residual.ensures.1)
 
-pub returns-then-h-ne0 : goal.returns-then-h-ne0
-returns-then-h-ne0 c =
-    rw (table-said c.args.form.now) (puts-fault _ c.header-h.ensures c.if-h-ne0.true)
+pub ceilings-requires : goal.ceilings-requires
+ceilings-requires c = let r = counts c.args.form.now c.in_ok-header.ensures.fault in (r.2, omega (arith, c.in_ok-header.ensures.few))
 
-pub ceilings-c-requires : goal.ceilings-c-requires
-ceilings-c-requires c =
-    let z = c.if-h-ne0.false in
-    ((ranges (goal.at.ceilings-c-requires c).After-header-h z).2, omega (arith, c.header-h.ensures.few z), puts-long c.header-h.ensures z c.requires)
-
-pub returns-then-c-ne0 : goal.returns-then-c-ne0
-returns-then-c-ne0 c =
+pub returns-in_err-ceilings : goal.returns-in_err-ceilings
+returns-in_err-ceilings c =
     rw (table-said c.args.form.now)
-    (puts_then {b = 915} c.header-h.ensures c.if-h-ne0.false (puts-fault _ c.ceilings-c.ensures c.if-c-ne0.true))
+    (puts_then {b = 915} c.in_ok-header.ensures (puts-fault _ c.in_err-ceilings.ensures c.from_residual-in_err-ceilings.ensures.1))
 
-pub mode_records-m-requires : goal.mode_records-m-requires
-mode_records-m-requires c =
-    let y = c.if-h-ne0.false in
-    let z = c.if-c-ne0.false in
-    let r = ranges (goal.at.mode_records-m-requires c).After-header-h y in (
-      r.2,
-      r.1,
-      omega (arith, r, c.header-h.ensures.few y, c.ceilings-c.ensures.few z),
-      puts-long c.ceilings-c.ensures z (puts-long c.header-h.ensures y c.requires),
-    )
+pub mode_records-requires : goal.mode_records-requires
+mode_records-requires c =
+    let r = counts c.args.form.now c.in_ok-header.ensures.fault in
+    (r.2, r.1, omega (arith, r, c.in_ok-header.ensures.few, c.in_ok-ceilings.ensures.few))
 
-pub returns-then-m-ne0 : goal.returns-then-m-ne0
-returns-then-m-ne0 c =
+pub returns-in_err-mode_records : goal.returns-in_err-mode_records
+returns-in_err-mode_records c =
+    let r = counts c.args.form.now c.in_ok-header.ensures.fault in
     rw (table-said c.args.form.now)
-    (puts-wide (puts_then c.header-h.ensures c.if-h-ne0.false
-    (puts_then {b = 0} c.ceilings-c.ensures c.if-c-ne0.false (puts-fault _ c.mode_records-m.ensures c.if-m-ne0.true)))
-    (λ z. absurd (c.if-m-ne0.true z)))
+    (puts-wide (puts_then c.in_ok-header.ensures
+    (puts_then {b = 0} c.in_ok-ceilings.ensures (puts-fault _ c.in_err-mode_records.ensures c.from_residual-in_err-mode_records.ensures.1)))
+    (omega (arith, r)))
 
 pub move_records-requires : goal.move_records-requires
 move_records-requires c =
-    let x = c.if-h-ne0.false in
-    let y = c.if-c-ne0.false in
-    let z = c.if-m-ne0.false in
-    let r = ranges (goal.at.move_records-requires c).After-header-h x in (
-      r.2,
-      r.3,
-      omega (arith, r, c.header-h.ensures.few x, c.ceilings-c.ensures.few y, c.mode_records-m.ensures.few z),
-      puts-long c.mode_records-m.ensures z (puts-long c.ceilings-c.ensures y
-          (puts-long c.header-h.ensures x c.requires)),
-    )
+    let r = counts c.args.form.now c.in_ok-header.ensures.fault in
+    (r.2, r.3, omega (arith, r, c.in_ok-header.ensures.few, c.in_ok-ceilings.ensures.few, c.in_ok-mode_records.ensures.few))
 
 pub returns : goal.returns
 returns c =
-    let x = c.if-h-ne0.false in
+    let r = counts c.args.form.now c.in_ok-header.ensures.fault in
     rw (table-said c.args.form.now)
-    (puts-wide (puts_then c.header-h.ensures x
-    (puts_then c.ceilings-c.ensures c.if-c-ne0.false
-    (puts_then c.mode_records-m.ensures c.if-m-ne0.false c.move_records.ensures)))
-    (λ z. omega (arith, ranges (goal.at.returns c).After-header-h x)))
+    (puts-wide (puts_then c.in_ok-header.ensures
+    (puts_then c.in_ok-ceilings.ensures (puts_then c.in_ok-mode_records.ensures c.move_records.ensures)))
+    (omega (arith, r)))

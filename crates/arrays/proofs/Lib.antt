@@ -1,3 +1,4 @@
 -- The laws that the functions' proofs cite.
+pub mod Counts
 pub mod Turns
 pub mod Entries

@@ -1,17 +1,12 @@
 -- What the loops over a region's arrays have done after one turn more.
 -- Assumes nothing.
 use mathlib.Core.Path.{◌≡◌, refl, ap, ◌∙◌}
-use mathlib.Core.Bool.{Bool, true, false, cond}
 use mathlib.Core.List.{List, [], ◌∷◌}
-use Prim.Native.Nat.{ℕ, zero, suc, ◌+◌, ◌≤◌, ◌<◌}
+use native.Mathlib.Omega.{arith}
+use Prim.Native.Nat.{ℕ, zero, suc, ◌+◌, ◌≤◌, ◌<◌, min}
 use native.Mathlib.Nat.{le_of_suc-le-suc, not-suc-le-zero}
-use native.Mathlib.Numerals.{add-one}
-use borrow.Author.Tests.{eq-eqb, ne_eqb}
-use lib.Dec.{eqb}
-use lib.ListN.{length, get_or, take, set}
-use lib.Seq.{length-take-le, get_or-take}
-use Rattle.semantics.specs.Region.{count}
-use Rattle.semantics.specs.Regions.Count.{count-pos}
+use lib.ListN.{length, get_or, set}
+use Rattle.std.proofs.lemmas.List.{set-get_or}
 use Rattle.arrays.specs.Arrays.{map_to}
 
 map_to-suc : (f : ℕ → ℕ) (i : ℕ) (l : List ℕ) → i < length l → set (map_to f i l) i (f (get_or l i 0)) ≡ map_to f (suc i) l
@@ -19,34 +14,28 @@ map_to-suc f i [] h = absurd (not-suc-le-zero h)
 map_to-suc f zero (x ∷ l) h = refl
 map_to-suc f (suc i) (x ∷ l) h = ap (λ (k : List ℕ). f x ∷ k) (map_to-suc f i l (le_of_suc-le-suc h))
 
--- One more entry is mapped.
-pub map_to-more : (f : ℕ → ℕ) (i : ℕ) (l : List ℕ) → i < length l → set (map_to f i l) i (f (get_or l i 0)) ≡ map_to f (i + 1) l
-map_to-more f i l h = rw add-one (map_to-suc f i l h)
+map_to-get : (f : ℕ → ℕ) (i : ℕ) (l : List ℕ) → get_or (map_to f i l) i 0 ≡ get_or l i 0
+map_to-get f zero l = refl
+map_to-get f (suc i) [] = refl
+map_to-get f (suc i) (x ∷ l) = map_to-get f i l
 
--- The order in which two entries are counted does not matter.
-swap : (b e : Bool) (n : ℕ) → cond b (suc (cond e (suc n) n)) (cond e (suc n) n) ≡ cond e (suc (cond b (suc n) n)) (cond b (suc n) n)
-swap true true n = refl
-swap true false n = refl
-swap false true n = refl
-swap false false n = refl
+-- The loop over the entries of l has mapped the first n of those before i.
+module _ (f : ℕ → ℕ) (i n : ℕ) (l items : List ℕ) (is : items ≡ map_to f (min i n) l) where
+  -- The next one is as it was.
+  pub map_to-here : i < n → get_or items i 0 ≡ get_or l i 0
+  map_to-here h = let e : min i n ≡ i = omega arith in rw (is, e) (map_to-get f i l)
 
-count-suc :
-    (g i : ℕ) (l : List ℕ) → i < length l
-    → count g (take (suc i) l) ≡ cond (eqb (get_or l i 0) g) (suc (count g (take i l))) (count g (take i l))
-count-suc g i [] h = absurd (not-suc-le-zero h)
-count-suc g zero (x ∷ l) h = refl
-count-suc g (suc i) (x ∷ l) h =
-    ap (λ (n : ℕ). cond (eqb x g) (suc n) n) (count-suc g i l (le_of_suc-le-suc h))
-    ∙ swap (eqb x g) (eqb (get_or l i 0) g) (count g (take i l))
+  -- One more is mapped.
+  pub map_to-more : i < length l → i < n → set items i (f (get_or items i 0)) ≡ map_to f (min (i + 1) n) l
+  map_to-more t h =
+      let e : min i n ≡ i = omega arith in
+      let d : min (i + 1) n ≡ suc i = omega arith in
+      rw (is, e, d, map_to-get f i l) (map_to-suc f i l t)
 
--- One more entry is looked at, and it is g.
-pub count-hit : (g i : ℕ) (l : List ℕ) → i < length l → get_or l i 0 ≡ g → count g (take i l) + 1 ≡ count g (take (i + 1) l)
-count-hit g i l h e = simp (add-one, count-suc g i l h, eq-eqb _ _ e)
+  -- No more is to be mapped.
+  pub map_to-past : n ≤ i → set items i (get_or items i 0) ≡ map_to f (min (i + 1) n) l
+  map_to-past h = let d : min (i + 1) n ≡ min i n = omega arith in set-get_or items i 0 ∙ rw d is
 
--- One more entry is looked at, and it is not g.
-pub count-miss : (g i : ℕ) (l : List ℕ) → i < length l → (get_or l i 0 ≡ g → ⊥) → count g (take i l) ≡ count g (take (i + 1) l)
-count-miss g i l h e = simp (add-one, count-suc g i l h, ne_eqb _ _ e)
-
--- One of the first n entries is g.
-pub count-found : (g i n : ℕ) (l : List ℕ) → i < n → n ≤ length l → get_or l i 0 ≡ g → 0 < count g (take n l)
-count-found g i n l h m e = count-pos g i (take n l) (rw (length-take-le n l m) h) (get_or-take n l i 0 h ∙ e)
+  -- All are mapped.
+  pub map_to-all : n ≤ i → items ≡ map_to f n l
+  map_to-all h = let d : n ≡ min i n = omega arith in rw d is

@@ -1,4 +1,5 @@
-// What the methods of a region do to its arrays. Loops over the timers that are there go over three, and leave off at the last: three turns unroll.
+// What the methods of a region do to its arrays. Loops over the timers that are there go over the whole array, and pass over the rest: on the unit a
+// loop of three turns unrolls, and one over a slice of n does not.
 #![tactic(auto)]
 
 ghost use Rattle.std.specs.Prelude.{◌≡◌, cond, ◌++◌, ◌∷◌, [], map, ℕ, suc, ◌+◌, ◌<◌, ◌≤◌, ◌^◌, min, eqb, get_or, take, drop};
@@ -17,12 +18,9 @@ pub fn count_of(group: [u8; MOST_TIMERS], n: usize, g: u8) -> usize
     requires { n ≤ most_timers }
     ensures { result ≡ count g (take n group) }
 {
-    let mut found: usize = 0;
-    for i in 0..MOST_TIMERS {
-        if n <= i {
-            return found;
-        }
-        if group[i] == g {
+    let mut found = 0;
+    for h in group.iter().take(n) {
+        if *h == g {
             found += 1;
         }
     }
@@ -34,42 +32,33 @@ pub fn none_zero(group: [u8; MOST_TIMERS], n: usize) -> bool
     requires { n ≤ most_timers }
     ensures { result ≡ eqb (count 0 (take n group)) 0 }
 {
-    for i in 0..MOST_TIMERS {
-        if n <= i {
-            return true;
-        }
-        if group[i] == 0 {
-            return false;
-        }
-    }
-    true
+    !group.iter().take(n).any(|g| *g == 0)
 }
 
 // Each of the first n groups is one higher.
-pub fn raised(group: [u8; MOST_TIMERS], n: usize) -> [u8; MOST_TIMERS]
+pub fn raised(mut group: [u8; MOST_TIMERS], n: usize) -> [u8; MOST_TIMERS]
     requires { (n ≤ most_timers) × ((i : ℕ) → get_or group i 0 < 255) }
     ensures { result ≡ map_to suc n group }
 {
-    let mut next = group;
-    for i in 0..MOST_TIMERS {
-        if n <= i {
-            return next;
+    for (i, g) in group.iter_mut().enumerate() {
+        if i < n {
+            *g += 1;
         }
-        next[i] = group[i] + 1;
     }
-    next
+    group
 }
 
 // Each of the first n prices is greater by price.
-pub fn charged(prices: [u32; MOST_CORNERS], n: usize, price: u32) -> [u32; MOST_CORNERS]
+pub fn charged(mut prices: [u32; MOST_CORNERS], n: usize, price: u32) -> [u32; MOST_CORNERS]
     requires { (n ≤ most_corners) × ((i : ℕ) → get_or prices i 0 + price < 2 ^ 32) }
     ensures { result ≡ map_to (λ c. c + price) n prices }
 {
-    let mut next = prices;
-    for i in 0..n {
-        next[i] = prices[i] + price;
+    for (i, c) in prices.iter_mut().enumerate() {
+        if i < n {
+            *c += price;
+        }
     }
-    next
+    prices
 }
 
 // The whole parts, those of group k one higher.
@@ -77,40 +66,32 @@ pub fn all_risen(k: u8, group: [u8; MOST_TIMERS], whole: [u8; MOST_TIMERS]) -> [
     requires { (i : ℕ) → get_or whole i 0 < 255 }
     ensures { result ≡ risen k group whole }
 {
-    let a = rise(k, group[0], whole[0]);
-    let b = rise(k, group[1], whole[1]);
-    let c = rise(k, group[2], whole[2]);
-    [a, b, c]
+    [
+        rise(k, group[0], whole[0]),
+        rise(k, group[1], whole[1]),
+        rise(k, group[2], whole[2]),
+    ]
 }
 
 // The groups, where group k becomes r0.
 pub fn all_wrapped(k: u8, group: [u8; MOST_TIMERS]) -> [u8; MOST_TIMERS]
     ensures { result ≡ map (wrapped k) group }
 {
-    let a = wrap(k, group[0]);
-    let b = wrap(k, group[1]);
-    let c = wrap(k, group[2]);
-    [a, b, c]
+    group.map(|g| if g == k { 0 } else { g })
 }
 
 // The groups, where group k is gone.
 pub fn all_lowered(k: u8, group: [u8; MOST_TIMERS]) -> [u8; MOST_TIMERS]
     ensures { result ≡ map (lowered k) group }
 {
-    let a = lower(k, group[0]);
-    let b = lower(k, group[1]);
-    let c = lower(k, group[2]);
-    [a, b, c]
+    group.map(|g| lower(k, g))
 }
 
 // The first price is dropped.
 pub fn shifted(prices: [u32; MOST_CORNERS]) -> [u32; MOST_CORNERS]
     ensures { result ≡ drop 1 prices ++ 0 ∷ [] }
 {
-    let a = prices[1];
-    let b = prices[2];
-    let c = prices[3];
-    [a, b, c, 0]
+    [prices[1], prices[2], prices[3], 0]
 }
 
 // The prices at i and i + 1 become one, the smaller.
@@ -118,26 +99,12 @@ pub fn merged(prices: [u32; MOST_CORNERS], i: usize) -> [u32; MOST_CORNERS]
     requires { i < 3 }
     ensures { result ≡ merge i prices ++ 0 ∷ [] }
 {
-    let a = prices[0];
-    let b = prices[1];
-    let c = prices[2];
-    let d = prices[3];
-    if i == 0 {
-        let ab = least(a, b);
-        return [ab, c, d, 0];
+    let [a, b, c, d] = prices;
+    match i {
+        0 => [a.min(b), c, d, 0],
+        1 => [a, b.min(c), d, 0],
+        _ => [a, b, c.min(d), 0],
     }
-    if i == 1 {
-        let bc = least(b, c);
-        return [a, bc, d, 0];
-    }
-    let cd = least(c, d);
-    [a, b, cd, 0]
-}
-
-pub fn least(a: u32, b: u32) -> u32
-    ensures { result ≡ min a b }
-{
-    if a < b { a } else { b }
 }
 
 fn rise(k: u8, g: u8, w: u8) -> u8
@@ -145,12 +112,6 @@ fn rise(k: u8, g: u8, w: u8) -> u8
     ensures { result ≡ cond (eqb g k) (suc w) w }
 {
     if g == k { w + 1 } else { w }
-}
-
-fn wrap(k: u8, g: u8) -> u8
-    ensures { result ≡ wrapped k g }
-{
-    if g == k { 0 } else { g }
 }
 
 fn lower(k: u8, g: u8) -> u8

@@ -1,4 +1,3 @@
 -- The laws that the functions' proofs cite.
 pub mod Codes
 pub mod Narrowing
-pub mod Ends

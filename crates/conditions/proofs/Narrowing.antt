@@ -4,7 +4,7 @@ use mathlib.Core.Path.{◌≡◌, refl, sym, ap, ◌∙◌}
 use mathlib.Core.Bool.{Bool, true, false}
 use mathlib.Core.Logic.{◌≢◌}
 use mathlib.Core.List.{List, [], ◌∷◌, ◌++◌}
-use Prim.Native.Nat.{ℕ, zero, suc, ◌+◌, ◌%◌, ◌≤◌, ◌<◌, max, min}
+use Prim.Native.Nat.{ℕ, zero, suc, ◌+◌, ◌%◌, ◌<◌, max, min}
 use native.Mathlib.Decide.{ℕ_discrete}
 use native.Mathlib.Nat.{add-zero}
 use native.Mathlib.Numerals.{add-one}
@@ -12,7 +12,6 @@ use native.Mathlib.Omega.{arith}
 use borrow.Author.Tests.{eq-eqb, ne_eqb}
 use lib.Dec.{eqb}
 use lib.ListN.{length, get_or, take}
-use lib.Seq.{take_all}
 use Rattle.semantics.specs.Condition.{Condition}
 use Rattle.semantics.specs.Regions.Windows.{lowest, above}
 use Rattle.table.specs.Meaning.{condition_of, conditions_from}
@@ -129,9 +128,3 @@ module _ (bytes : List ℕ) (i : ℕ) (there : i < length bytes) (row : List ℕ
       let more : conditions_from 0 (take (i + 1) bytes) ≡ (conditions_from 0 (take i bytes) ++ condition_of (i % 3) (get_or bytes i 0) ∷ []) =
       rw add-one (from_some 0 i bytes there n ∙ rw place) in
       e ∙ rw (is, more) (sym (row_last (conditions_from 0 (take i bytes)) (condition_of (i % 3) (get_or bytes i 0)) (omega arith)))
-
--- And after all of them.
-pub row-all :
-    (bytes : List ℕ) (i : ℕ) → length bytes ≡ 6 → 6 ≤ i → (row : List ℕ) → row ≡ row_of (conditions_from 0 (take i bytes))
-    → row ≡ row_of (conditions_from 0 bytes)
-row-all bytes i six l row is = is ∙ rw (take_all i bytes (omega arith))

@@ -3,16 +3,18 @@ ghost use Rattle.std.specs.Prelude.{◌≡◌, ◌+◌, ◌<◌, leb, ltb};
 ghost use Rattle.semantics.specs.Region.{high, meets_at};
 ghost use Rattle.table.specs.Meaning.{comparison_of};
 
+use crate::comparison::Comparison;
+
 // By the code of a condition byte.
 pub fn meets_at(code: u8, v: u8, w: u8, g: u8) -> bool
     ensures { result ≡ meets_at (comparison_of code) v w g }
 {
-    match code {
-        0 | 1 => w < v,
-        2 => at_most(v, w, g),
-        3 => { if g == 0 { w == v } else { false } }
-        4 => v <= w,
-        _ => above(v, w, g),
+    match Comparison::from(code) {
+        Comparison::Less => w < v,
+        Comparison::AtMost => at_most(v, w, g),
+        Comparison::Equal => g == 0 && w == v,
+        Comparison::AtLeast => v <= w,
+        Comparison::Greater => above(v, w, g),
     }
 }
 

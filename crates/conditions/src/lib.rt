@@ -2,4 +2,5 @@
 #![tactic(auto)]
 
 pub mod compare;
+pub mod comparison;
 pub mod windows;

@@ -5,6 +5,8 @@ ghost use Rattle.table.specs.Meaning.{comparison_of, condition_of, conditions_fr
 ghost use Rattle.table.specs.Fields.{most_ceiling};
 ghost use Rattle.conditions.specs.Windows.{joined_low, joined_high, capped, row_of, narrow};
 
+use crate::comparison::Comparison;
+
 // The windows of three timers: of each the lowest place at which its conditions hold, and the first above it at which they do not.
 pub const ROW: usize = 6;
 
@@ -16,37 +18,34 @@ pub fn windows(conditions: [u8; ROW]) -> [u8; ROW]
     ensures { result ≡ row_of (conditions_from 0 conditions) }
 {
     let mut row = [0, FREE, 0, FREE, 0, FREE];
-    for i in 0..ROW {
-        let condition = conditions[i];
+    for (i, &condition) in conditions.iter().enumerate() {
         if condition != 0 {
-            let next = narrowed(row, i % 3, condition);
-            row = next;
+            narrow(&mut row, i % 3, condition);
         }
     }
     row
 }
 
 // With one condition more.
-fn narrowed(row: [u8; ROW], timer: usize, condition: u8) -> [u8; ROW]
+fn narrow(row: &mut [u8; ROW], timer: usize, condition: u8)
     requires { timer < 3 }
-    ensures { result ≡ narrow row (condition_of timer condition) }
+    ensures { row.new ≡ narrow row.old (condition_of timer condition) }
 {
-    let mut next = row;
-    let at = 2 * timer;
-    next[at] = larger(row[at], lowest(condition));
-    next[at + 1] = smaller(row[at + 1], above(condition));
-    next
+    let low = 2 * timer;
+    let high = low + 1;
+    row[low] = row[low].max(lowest(condition));
+    row[high] = row[high].min(above(condition));
 }
 
-// The lowest place at which a condition holds. Code 0, which no table has, is read as code 1.
+// The lowest place at which a condition holds.
 fn lowest(condition: u8) -> u8
     ensures { result ≡ lowest (comparison_of (condition / 16)) (condition % 16) }
 {
     let value = 2 * (condition % 16);
-    match condition / 16 {
-        0..=2 => 0,
-        3 | 4 => value,
-        _ => value + 1,
+    match Comparison::from(condition / 16) {
+        Comparison::Less | Comparison::AtMost => 0,
+        Comparison::Equal | Comparison::AtLeast => value,
+        Comparison::Greater => value + 1,
     }
 }
 
@@ -55,10 +54,10 @@ fn above(condition: u8) -> u8
     ensures { result ≡ above (comparison_of (condition / 16)) (condition % 16) }
 {
     let value = 2 * (condition % 16);
-    match condition / 16 {
-        0 | 1 => value,
-        2 | 3 => value + 1,
-        _ => FREE,
+    match Comparison::from(condition / 16) {
+        Comparison::Less => value,
+        Comparison::AtMost | Comparison::Equal => value + 1,
+        Comparison::AtLeast | Comparison::Greater => FREE,
     }
 }
 
@@ -69,7 +68,7 @@ pub fn joined_low(reset: bool, own: u8, low: u8) -> u8
     if reset {
         return own;
     }
-    larger(own, low)
+    own.max(low)
 }
 
 // And the high end. A timer that is reset stands at 0 in the target: where 0 is outside, no place is left.
@@ -77,7 +76,7 @@ pub fn joined_high(reset: bool, own: u8, low: u8, high: u8) -> u8
     ensures { result ≡ joined_high reset own low high }
 {
     if !reset {
-        return smaller(own, high);
+        return own.min(high);
     }
     if 0 < low {
         return 0;
@@ -93,17 +92,5 @@ pub fn capped(high: u8, ceiling: u8) -> u8
     requires { ceiling ≤ most_ceiling }
     ensures { result ≡ capped high ceiling }
 {
-    smaller(high, 2 * ceiling + 1)
-}
-
-fn larger(a: u8, b: u8) -> u8
-    ensures { result ≡ max a b }
-{
-    if a < b { b } else { a }
-}
-
-fn smaller(a: u8, b: u8) -> u8
-    ensures { result ≡ min a b }
-{
-    if b < a { b } else { a }
+    high.min(2 * ceiling + 1)
 }

@@ -30,22 +30,6 @@ up-to-three P a b c d (suc (suc zero)) h = c
 up-to-three P a b c d (suc (suc (suc zero))) h = d
 up-to-three P a b c d (suc (suc (suc (suc n)))) h = absurd (omega arith)
 
--- The number is none of those below k, as the last arm of a `match` knows it.
-abbrev NoneBelow : ℕ → ℕ → Type 0
-NoneBelow n zero = Unit {0}
-NoneBelow n (suc k) = NoneBelow n k × (n ≡ k → ⊥)
-
-none_below : (n k : ℕ) → NoneBelow n k → k ≤ n
-none_below n zero h = omega arith
-none_below n (suc k) h = omega (arith, none_below n k h.0, h.1)
-
-pub last_row : (n k : ℕ) → n < suc k → NoneBelow n k → n ≡ k
-last_row n k few h = omega (arith, none_below n k h)
-
--- The table CORNERS follows the rule, which holds for any number of timers.
-pub counts-right : (n : ℕ) → n ≤ 3 → get_or (1 ∷ 3 ∷ 13 ∷ 75 ∷ []) n 0 ≡ corner_count n 1
-counts-right = up-to-three (λ n. get_or (1 ∷ 3 ∷ 13 ∷ 75 ∷ []) n 0 ≡ corner_count n 1) refl refl refl refl
-
 -- A row is right if its four entries are.
 unfoldable pub row_test : (ℕ → ℕ) → ℕ → ℕ → Bool
 row_test f row r = every_from (λ column place. eqb (entry_of r column) (f place)) 0 (count_from (4 * row) 4)
@@ -68,15 +52,7 @@ entry-is f place h =
 abbrev pub first_places : List ℕ
 first_places = 0 ∷ 0 ∷ 4 ∷ 20 ∷ []
 
--- The place of a corner is in the table, and the entry there is the corner.
-pub place_in : (n : ℕ) → n ≤ 3 → (i : ℕ) → i < corner_count n 1 → get_or first_places n 0 + i < 96
-place_in =
-    up-to-three (λ n. (i : ℕ) → i < corner_count n 1 → get_or first_places n 0 + i < 96)
-    (λ i h. let b : i < 1 = h in omega arith)
-    (λ i h. let b : i < 3 = h in omega arith)
-    (λ i h. let b : i < 13 = h in omega arith)
-    (λ i h. let b : i < 75 = h in omega arith)
-
+-- The entry at the place of a corner is the corner.
 pub byte-is : (n : ℕ) → 1 ≤ n → n ≤ 3 → (i : ℕ) → i < corner_count n 1 → corner_byte (get_or first_places n 0 + i) ≡ byte_of (corner_at n i)
 byte-is zero some few i there = absurd (omega arith)
 byte-is (suc zero) some few i there =

@@ -11,7 +11,7 @@ fn factor(ceiling: u8) -> u32
     requires { ceiling ≤ most_ceiling }
     ensures { IsFactor ceiling result }
 {
-    ceiling as u32 + 1
+    u32::from(ceiling) + 1
 }
 
 // How many cells there are. Behind the last ceiling there is 0, so that the factors there are 1.
@@ -27,7 +27,7 @@ fn with_digit(high: u32, factor: u32, digit: u8) -> u32
     requires { (high ≤ 4335) × (factor ≤ 16) }
     ensures { (result ≡ high * factor + digit) × (result ≤ 16 * high + 255) }
 {
-    high * factor + digit as u32
+    high * factor + u32::from(digit)
 }
 
 // The number of a cell.

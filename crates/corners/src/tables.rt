@@ -1,6 +1,6 @@
 // The constant tables of the corners of a cell. Two of them give a row of four entries, a word of the unit's core, by a `match`, which the compiler
 // keeps in read-only memory; a constant array it writes anew onto the stack at each use.
-ghost use Rattle.std.specs.Prelude.{◌≡◌, ◌<◌, ◌≤◌, max};
+ghost use Rattle.std.specs.Prelude.{◌≡◌, ◌<◌, ◌≤◌};
 ghost use Rattle.semantics.specs.NodeCount.{corner_count};
 ghost use Rattle.semantics.specs.Corners.Corner.{corner_at};
 ghost use Rattle.table.specs.Fields.{most_timers};
@@ -28,13 +28,7 @@ pub fn corner_count(timers: usize) -> u32
     requires { timers ≤ most_timers }
     ensures { (result ≡ corner_count timers 1) × (1 ≤ result) × (result ≤ most_cell_corners) }
 {
-    wide(CORNERS[timers])
-}
-
-fn wide(byte: u8) -> u32
-    ensures { result ≡ byte }
-{
-    byte as u32
+    u32::from(CORNERS[timers])
 }
 
 // The number of a region's first corner, by the place of its groups.
@@ -50,22 +44,16 @@ pub fn corner_at(timers: usize, number: usize) -> CornerAt
     requires { (1 ≤ timers) × (timers ≤ most_timers) × (number < corner_count timers 1) }
     ensures { result ≡ pack_corner (corner_at timers number) }
 {
-    let place = FIRST_PLACES[timers] as usize + number;
+    let place = usize::from(FIRST_PLACES[timers]) + number;
     let byte = entry(corner_row(place / 4), place % 4);
     let a = byte / 16 % 4;
     let b = byte / 4 % 4;
     let c = byte % 4;
     CornerAt {
         group: [a, b, c],
-        index: (byte / 64) as usize,
-        top: greatest(a, greatest(b, c)),
+        index: usize::from(byte / 64),
+        top: a.max(b.max(c)),
     }
-}
-
-fn greatest(a: u8, b: u8) -> u8
-    ensures { result ≡ max a b }
-{
-    if a < b { b } else { a }
 }
 
 // An entry of a row; the first one stands in the lowest byte.

@@ -1,13 +1,12 @@
--- `arrays::count_of` meets its contract. The loop has counted in the first i groups.
+-- `arrays::count_of` meets its contract. The loop has counted in the groups that it was given so far.
 -- Assumes nothing.
 use mathlib.Core.Path.{◌≡◌}
-use Prim.Native.Nat.{◌-◌, ◌≤◌}
-use lib.ListN.{take}
+use Prim.Native.Nat.{◌≤◌}
+use lib.ListN.{length, take}
 use Rattle.semantics.specs.Region.{count}
 use Rattle.arrays.proofs.count_of.Given as goal
 
-abbrev pub invariant-loop-i : goal.invariant-loop-i
-invariant-loop-i l = (l.i ≤ l.n) × (l.found ≡ count l.g (take l.i l.group)) × (l.found ≤ l.i)
-
-abbrev pub decreases-loop-i : goal.decreases-loop-i
-decreases-loop-i l = 3 - l.i
+abbrev pub invariant-loop-h : goal.invariant-loop-h
+invariant-loop-h l =
+    (l.found ≡ count l.fn.g (take (length l.yielded) (take l.fn.n l.fn.group))) × (l.found ≤ length l.yielded)
+    × (goal.iterator-loop-h).can_next l.h-iterator × (goal.iterator-loop-h).is_finite l.h-iterator

@@ -1,9 +1,10 @@
 -- `corners::tables::first_row` meets its contract: each row by a test that is computed.
 -- Assumes nothing.
-use mathlib.Core.Path.{refl}
+use mathlib.Core.Path.{◌≡◌, refl}
+use native.Mathlib.Omega.{arith}
 use Rattle.semantics.specs.Corners.Corner.{corner_number}
 use Rattle.corners.specs.Tables.{first_at}
-use Rattle.corners.proofs.Rules.{row_test, row_is, last_row}
+use Rattle.corners.proofs.Rules.{row_test, row_is}
 use Rattle.corners.proofs.tables.first_row.Goals as goal
 
 pub returns-in-0 : goal.returns-in-0
@@ -100,4 +101,4 @@ returns-in-22 c = row_is first_at c.in-22.is refl
 
 pub returns-in_default : goal.returns-in_default
 unfolding row_test corner_number
-returns-in_default c = row_is first_at (last_row c.args.row 23 c.requires c.in_default.in_default-own.rest) refl
+returns-in_default c = let last : c.args.row ≡ 23 = omega arith in row_is first_at last refl

@@ -1,21 +1,22 @@
--- One turn more of the loops that fill a form.
+-- The copies and the loops that fill a form.
 -- Assumes nothing.
-use Prim.Native.Nat.{ℕ, ◌+◌, ◌*◌, ◌<◌}
+use Prim.Native.Nat.{ℕ, ◌+◌, ◌*◌, ◌≤◌, ◌<◌}
 use native.Mathlib.Numerals.{add-one}
-use native.Mathlib.Nat.{add_assoc}
 use native.Mathlib.Omega.{arith}
 use mathlib.Core.Path.{◌≡◌, sym, ap, ◌∙◌}
 use mathlib.Core.List.{List, [], ◌∷◌, ◌++◌, map, map-append}
 use lib.ListN.{length, get_or, take, drop, set, length-drop}
-use lib.Seq.{take-suc, get_or-drop, take-suc-set, drop-drop}
+use borrow.Rule.Slice.PartMut.{mid_of, put_mid, same_len_mid}
+use Rattle.std.proofs.lemmas.Slice.{take-put_mid}
+use lib.Seq.{length-take-le, take-suc, get_or-drop, take-suc-set, drop-drop}
 use Rattle.table.specs.Held.{flat, records_from, fields_of, IsTable}
 use Rattle.reader.specs.Read.{accepted, rejected, read}
-use Rattle.reader.specs.declared.Verdict.TheVariants.{Accepted, Refused}
+use Rattle.reader.specs.Reading.{Accepted, Refused}
 use Rattle.form.specs.Form.{place_from}
 use Rattle.form.specs.Formed.{place, places, formed}
 use Rattle.form.specs.Filled.{outcome, filled}
 use Rattle.form.specs.Appends.{Appends, mode_widened, move_widened}
-use Rattle.form.specs.Theorems.Appending.{append-byte, append-then, append-whole, records-more, flat-more}
+use Rattle.form.specs.Theorems.Appending.{append-then, append-whole, records-more, flat-more}
 use Rattle.form.specs.Theorems.Widening.{widened}
 
 -- One byte more of those from a place on.
@@ -26,11 +27,16 @@ take_more table from i h =
     (take-suc (drop from table) i 0 (omega (arith, length-drop from table))
     ∙ ap (λ (b : ℕ). take i (drop from table) ++ b ∷ []) (get_or-drop from table i 0))
 
-pub copy_more : {t t' : List ℕ} {at : ℕ} (table : List ℕ) (from i : ℕ) → from + i < length table → at + i < length t' →
-    Appends t at (take i (drop from table)) t' (at + i) →
-    Appends t at (take (i + 1) (drop from table)) (set t' (at + i) (get_or table (from + i) 0)) (at + (i + 1))
-copy_more {t' = t'} {at = at} table from i h k p =
-    rw (take_more table from i h, ← add_assoc at i 1) (append-then p (append-byte t' (at + i) _ k))
+-- So many bytes from a place on, copied.
+pub copied-slice : {ys : List ℕ} (t table : List ℕ) (at from n : ℕ) → from + n ≤ length table → at + n ≤ length t → ys ≡ take n (drop from table) →
+    Appends t at (take n (drop from table)) (put_mid at n t ys) (at + n)
+copied-slice {ys} t table at from n h k e =
+    let part : length ys ≡ n = ap length e ∙ length-take-le n (drop from table) (omega (arith, length-drop from table)) in
+    let there : length (mid_of at n t) ≡ n = length-take-le n (drop at t) (omega (arith, length-drop at t)) in
+    record {
+      is = take-put_mid at n t ys (at + n) (omega arith) (omega arith) ∙ ap (λ (l : List ℕ). take at t ++ l) e;
+      long = same_len_mid at n t ys (part ∙ sym there);
+    }
 
 pub place-more : {t t' t'' : List ℕ} {at : ℕ} (table : List ℕ) (from i : ℕ) → from + i < length table →
     Appends t at (places (take i (drop from table))) t' (at + 2 * i) →

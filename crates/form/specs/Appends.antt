@@ -8,11 +8,6 @@ pub record Appends (t : List ℕ) (at : ℕ) (xs t' : List ℕ) (next : ℕ) : T
   pub is : take next t' ≡ take at t ++ xs
   pub long : length t' ≡ length t
 
--- The arrays of a table and of a form have their bytes.
-pub record Whole (table form : List ℕ) : Type 0 where
-  pub table-long : length table ≡ 904
-  pub form-long : length form ≡ 1384
-
 -- The part of a form that a record of a table becomes: its conditions have two bytes each, its other bytes stay.
 abbrev pub mode_widened : List ℕ → List ℕ
 mode_widened u = take 2 u ++ places (take 6 (drop 2 u))

@@ -1,9 +1,8 @@
 -- What filling a form from the bytes of a table answers, and what it leaves in the form.
 -- Assumes nothing.
 use Rattle.std.specs.Prelude.{ℕ, List}
-use Rattle.reader.specs.declared.Verdict.{Verdict}
 use Rattle.reader.specs.Read.{Judgement, accepted, rejected, read}
-use Rattle.reader.specs.Reading.{verdict_of}
+use Rattle.reader.specs.Reading.{Verdict, verdict_of}
 use Rattle.form.specs.Formed.{formed}
 
 -- The verdict and the form after a call.

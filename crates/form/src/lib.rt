@@ -2,13 +2,14 @@
 #![tactic(auto)]
 
 ghost use Rattle.std.specs.Prelude.{◌≡◌, ◌+◌, ◌≤◌, drop};
+ghost use Rattle.reader.specs.Reading.{told};
 ghost use Rattle.form.specs.Form.{place_from, six_places, condition_byte};
 ghost use Rattle.form.specs.Filled.{outcome, filled};
 
 mod records;
 
-use reader::{CONDITIONS, Verdict};
-use table::SIZE;
+use reader::CONDITIONS;
+use table::refusals::Refusal;
 
 // The bytes of a form. It begins as a table does: the counts, the goal and the ceilings stand at the same offsets.
 pub const FORM: usize = 1384;
@@ -31,19 +32,12 @@ pub const MOVE_PLACES: usize = 4;
 pub const MOVE_RESETS: usize = 16;
 
 // Fills a form with the fields of the table that the bytes are, or refuses the bytes and leaves the form as it is.
-pub fn fill(bytes: &[u8], form: &mut [u8; FORM]) -> Verdict
-    ensures { outcome result form.new ≡ filled bytes.now form.old }
+pub fn fill(bytes: &[u8], form: &mut [u8; FORM]) -> Result<(), Refusal>
+    ensures { outcome (told result) form.new ≡ filled bytes.now form.old }
 {
-    let mut table = [0u8; SIZE];
-    let verdict = reader::read(bytes, &mut table);
-    match verdict {
-        Verdict::Refused(n) => Verdict::Refused(n),
-        Verdict::Accepted => {
-            *form = [0; FORM];
-            records::fill_from(&table, form);
-            Verdict::Accepted
-        }
-    }
+    let table = reader::table_of(bytes)?;
+    records::fill_from(&table, form);
+    Ok(())
 }
 
 // The conditions in six places, as bytes.
@@ -73,10 +67,7 @@ fn condition_byte(code: u8, value: u8) -> u8
     if code == 0 {
         return 0;
     }
-    if 15 < code {
-        return 255;
-    }
-    if 15 < value {
+    if 15 < code || 15 < value {
         return 255;
     }
     16 * code + value

@@ -1,15 +1,15 @@
 // A form's parts, one behind another, from those of a table that was read.
-ghost use Rattle.std.specs.Prelude.{◌≡◌, ◌+◌, ◌≤◌, length, take, drop};
-ghost use Rattle.table.specs.Held.{flat, records_from, fields_of, IsTable};
+ghost use Rattle.std.specs.Prelude.{◌≡◌, ◌+◌, ◌≤◌, take, drop};
+ghost use Rattle.table.specs.Held.{flat, records_from, fields_of};
 ghost use Rattle.form.specs.Formed.{place, places, formed};
-ghost use Rattle.form.specs.Appends.{Appends, Whole, mode_widened, move_widened};
+ghost use Rattle.form.specs.Appends.{Appends, mode_widened, move_widened};
 
 use crate::{
     FORM, MODE_FORM, MODE_FORMS, MODE_PLACES, MOVE_FORM, MOVE_FORMS, MOVE_PLACES, MOVE_RESETS,
 };
 use reader::CONDITIONS;
 use table::{
-    GUARD, INVARIANT, MODE_RECORDS, MODE_STRIDE, MOVE_RECORDS, MOVE_STRIDE, RESETS, SIZE,
+    GUARD, INVARIANT, MODE_RECORDS, MODE_STRIDE, MOVE_RECORDS, MOVE_STRIDE, RESETS, SIZE, Table,
 };
 
 // All records that a table has room for: those behind the last one are 0 in both.
@@ -19,17 +19,15 @@ const MOVES: usize = 64;
 
 // So many bytes, as they stand in the table.
 fn copied(table: &[u8; SIZE], from: usize, form: &mut [u8; FORM], at: usize, n: usize)
-    requires { (from + n ≤ 904) × (at + n ≤ 1384) × Whole table.now form.old }
+    requires { (from + n ≤ 904) × (at + n ≤ 1384) }
     ensures { Appends form.old at (take n (drop from table.now)) form.new (at + n) }
 {
-    for i in 0..n {
-        form[at + i] = table[from + i];
-    }
+    form[at..at + n].copy_from_slice(&table[from..from + n]);
 }
 
 // A condition's code and value.
 fn place(c: u8, form: &mut [u8; FORM], at: usize)
-    requires { (at + 2 ≤ 1384) × (length form.old ≡ 1384) }
+    requires { at + 2 ≤ 1384 }
     ensures { Appends form.old at (place c) form.new (at + 2) }
 {
     form[at] = c / 16;
@@ -38,7 +36,7 @@ fn place(c: u8, form: &mut [u8; FORM], at: usize)
 
 // The six places of a record.
 fn places(table: &[u8; SIZE], from: usize, form: &mut [u8; FORM], at: usize)
-    requires { (from + 6 ≤ 904) × (at + 12 ≤ 1384) × Whole table.now form.old }
+    requires { (from + 6 ≤ 904) × (at + 12 ≤ 1384) }
     ensures { Appends form.old at (places (take 6 (drop from table.now))) form.new (at + 12) }
 {
     for i in 0..CONDITIONS {
@@ -48,7 +46,7 @@ fn places(table: &[u8; SIZE], from: usize, form: &mut [u8; FORM], at: usize)
 
 // A mode: its rate, and its conditions.
 fn mode_form(table: &[u8; SIZE], from: usize, form: &mut [u8; FORM], at: usize)
-    requires { (from + 8 ≤ 904) × (at + 14 ≤ 1384) × Whole table.now form.old }
+    requires { (from + 8 ≤ 904) × (at + 14 ≤ 1384) }
     ensures { Appends form.old at (mode_widened (drop from table.now)) form.new (at + 14) }
 {
     copied(table, from, form, at, INVARIANT);
@@ -57,7 +55,7 @@ fn mode_form(table: &[u8; SIZE], from: usize, form: &mut [u8; FORM], at: usize)
 
 // A move: its modes and its price, its conditions, and the byte of its resets with the 0 behind it.
 fn move_form(table: &[u8; SIZE], from: usize, form: &mut [u8; FORM], at: usize)
-    requires { (from + 12 ≤ 904) × (at + 18 ≤ 1384) × Whole table.now form.old }
+    requires { (from + 12 ≤ 904) × (at + 18 ≤ 1384) }
     ensures { Appends form.old at (move_widened (drop from table.now)) form.new (at + 18) }
 {
     copied(table, from, form, at, GUARD);
@@ -73,7 +71,6 @@ fn move_form(table: &[u8; SIZE], from: usize, form: &mut [u8; FORM], at: usize)
 
 // The modes. The unit's core multiplies in 32 bits.
 fn mode_forms(table: &[u8; SIZE], form: &mut [u8; FORM])
-    requires { Whole table.now form.old }
     ensures { Appends form.old 8 (flat (records_from mode_widened 8 16 (drop 8 table.now))) form.new 232 }
 {
     for i in 0..MODES {
@@ -89,7 +86,6 @@ fn mode_forms(table: &[u8; SIZE], form: &mut [u8; FORM])
 
 // The moves.
 fn move_forms(table: &[u8; SIZE], form: &mut [u8; FORM])
-    requires { Whole table.now form.old }
     ensures { Appends form.old 232 (flat (records_from move_widened 12 64 (drop 136 table.now))) form.new 1384 }
 {
     for i in 0..MOVES {
@@ -104,11 +100,10 @@ fn move_forms(table: &[u8; SIZE], form: &mut [u8; FORM])
 }
 
 // A form that says what the table says.
-pub fn fill_from(table: &[u8; SIZE], form: &mut [u8; FORM])
-    requires { IsTable table.now × (length form.old ≡ 1384) }
-    ensures { form.new ≡ formed (fields_of table.now) }
+pub fn fill_from(table: &Table, form: &mut [u8; FORM])
+    ensures { form.new ≡ formed (fields_of table.now.bytes) }
 {
-    copied(table, 0, form, 0, MODE_FORMS);
-    mode_forms(table, form);
-    move_forms(table, form);
+    copied(&table.bytes, 0, form, 0, MODE_FORMS);
+    mode_forms(&table.bytes, form);
+    move_forms(&table.bytes, form);
 }

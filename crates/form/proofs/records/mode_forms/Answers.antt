@@ -1,6 +1,6 @@
 -- `form::records::mode_forms` meets its contract. Assumes nothing.
 use Prim.Native.Nat.{◌*◌}
-use mathlib.Core.Path.{◌≡◌, ◌∙◌}
+use mathlib.Core.Path.{◌≡◌}
 use lib.ListN.{drop}
 use lib.Seq.{drop-drop}
 use Rattle.form.specs.Appends.{mode_widened}
@@ -10,11 +10,6 @@ use Rattle.form.proofs.records.mode_forms.Goals as goal
 
 pub loop-i-init : goal.loop-i-init
 loop-i-init c = (omega arith, append-none c.args.form.now 8)
-
-pub mode_form-requires : goal.mode_form-requires
-mode_form-requires c =
-    let whole = c.requires in
-    (omega arith, omega arith, record { table-long = whole.table-long; form-long = c.loop-i.invariant.1.long ∙ whole.form-long })
 
 pub loop-i-preserved : goal.loop-i-preserved
 loop-i-preserved c =

@@ -7,10 +7,11 @@ use Prim.Native.Nat.{ℕ, ◌+◌, ◌≤◌, ◌<◌}
 use native.Mathlib.Decide.{dec_lt}
 use native.Mathlib.Omega.{arith}
 use lib.ListN.{length}
+use Rattle.std.specs.Prelude.{Option}
 use Rattle.semantics.specs.Automaton.{Automaton, move_at}
 use Rattle.table.specs.Held.{automaton_of}
-use Rattle.rules.specs.Rules.{none, first_of, after_of, FirstFrom, IsRules}
-use Rattle.space.specs.Moves.{Open, NextFrom, NextMove, OpenFrom}
+use Rattle.rules.specs.Rules.{none, as_move, after_of, FirstFrom, IsRules}
+use Rattle.space.specs.Moves.{Open, NextFrom, NextMove, NextReady, NextDone, OpenFrom, OpenNamed}
 
 -- Move e leaves the mode, or is none, and no move of the mode stands between the byte and it. It may stand before the byte itself.
 pub record Since (a : Automaton) (mode byte e : ℕ) : Type 0 where
@@ -29,11 +30,6 @@ module _ {a : Automaton} {mode : ℕ} (byte : ℕ) where
 
   pub since-done : {e : ℕ} → byte ≤ e → Since a mode byte e → FirstFrom a mode byte e
   since-done h s = record { from = h; few = s.few; there = s.there; none_before = s.none_before }
-
--- The first move of a mode, as the rules name it.
-pub first-begins :
-    {t rs : List ℕ} → IsRules t rs → {mode f : ℕ} → mode < length (automaton_of t).modes → f ≡ first_of rs mode → FirstFrom (automaton_of t) mode 0 f
-first-begins rules {mode} there is = rw is (rules.first mode there)
 
 -- From the first of them on, those that are passed over are left out.
 pub first-ready : {t rs : List ℕ} {mode byte f : ℕ} → IsRules t rs → FirstFrom (automaton_of t) mode byte f → NextFrom t rs f
@@ -60,16 +56,27 @@ next-open {t} {rs} {hs} {mode} {byte} {f} {r} first next = record {
         let own = (first.there (omega (arith, next.few))).1 in
         next.passed e (omega arith) k there (is ∙ sym own) opens
 
--- After one of them comes the next.
-module _ {t rs : List ℕ} (rules : IsRules t rs) {e n : ℕ} (there : e < length (automaton_of t).moves) (is : n ≡ after_of rs e) where
-  pub first-after : FirstFrom (automaton_of t) (move_at (automaton_of t) e).source (e + 1) n
-  first-after = rw is (rules.after e there)
+-- The same by what names the first of them, and the one that is handed back.
+module _ {t rs : List ℕ} (rules : IsRules t rs) where
+  module _ {mode byte f : ℕ} (first : FirstFrom (automaton_of t) mode byte f) {from : Option ℕ} (is : from ≡ as_move f) where
+    pub named-ready : NextReady rs from
+    named-ready = (t, f, is, first-ready rules first)
 
-  pub next-rises : e < n
-  next-rises = omega (arith, first-after.from)
+    pub named-open : {hs : List ℕ} {result : Option ℕ} → NextDone rs hs from result → OpenNamed t rs hs mode byte result
+    named-open done =
+        let next = done t f is (first-ready rules first) in
+        (next.0, next.1, next-open first next.2)
 
-  pub next-ready : NextFrom t rs n
-  next-ready = first-ready rules first-after
+  -- After one of them comes the next.
+  module _ {e : ℕ} (there : e < length (automaton_of t).moves) where
+    pub after-rises : e < after_of rs e
+    after-rises = omega (arith, (rules.after e there).from)
 
-  pub open_after : {hs : List ℕ} {mode r : ℕ} → (move_at (automaton_of t) e).source ≡ mode → NextMove t rs hs n r → OpenFrom t rs hs mode (e + 1) r
-  open_after source next = next-open (rw source at first-after) next
+    module _ {from : Option ℕ} (is : from ≡ as_move (after_of rs e)) where
+      pub after-ready : NextReady rs from
+      after-ready = named-ready (rules.after e there) is
+
+      pub after-open :
+          {hs : List ℕ} {mode : ℕ} {result : Option ℕ} → (move_at (automaton_of t) e).source ≡ mode → NextDone rs hs from result
+          → OpenNamed t rs hs mode (e + 1) result
+      after-open source done = named-open (rw source at (rules.after e there)) is done

@@ -1,9 +1,9 @@
 -- Which moves are passed over, by the places of the timers in half minutes.
 -- Assumes nothing.
-use Rattle.std.specs.Prelude.{◌≡◌, List, ℕ, ◌+◌, ◌≤◌, ◌<◌, length}
+use Rattle.std.specs.Prelude.{◌≡◌, List, ℕ, ◌+◌, ◌≤◌, ◌<◌, Option, length}
 use Rattle.semantics.specs.Automaton.{move_at}
 use Rattle.table.specs.Held.{automaton_of}
-use Rattle.rules.specs.Rules.{none, InRow, IsRules}
+use Rattle.rules.specs.Rules.{none, as_move, InRow, IsRules}
 
 -- Move e is not passed over: its own conditions hold, and after its resets the target's. Its row of the rules has both.
 abbrev pub Open : List ℕ → List ℕ → ℕ → Type 0
@@ -26,12 +26,14 @@ pub record NextMove (t rs hs : List ℕ) (from r : ℕ) : Type 0 where
       (e : ℕ) → from ≤ e → e < r → e < length (automaton_of t).moves → (move_at (automaton_of t) e).source ≡ (move_at (automaton_of t) from).source
       → Open rs hs e → ⊥
 
--- What is said of the next move holds for every table whose rules these are; that there is one is asked.
-abbrev pub NextReady : List ℕ → ℕ → Type 0
-NextReady rs from = (t : List ℕ) × NextFrom t rs from
+-- What is said of the next move holds for every table whose rules these are, and a byte that names the move from which on it is looked for; that there
+-- are a table and a byte is asked.
+abbrev pub NextReady : List ℕ → Option ℕ → Type 0
+NextReady rs from = (t : List ℕ) × (byte : ℕ) × (from ≡ as_move byte) × NextFrom t rs byte
 
-abbrev pub NextDone : List ℕ → List ℕ → ℕ → ℕ → Type 0
-NextDone rs hs from r = (t : List ℕ) → NextFrom t rs from → NextMove t rs hs from r
+abbrev pub NextDone : List ℕ → List ℕ → Option ℕ → Option ℕ → Type 0
+NextDone rs hs from result =
+    (t : List ℕ) (byte : ℕ) → from ≡ as_move byte → NextFrom t rs byte → (r : ℕ) × (result ≡ as_move r) × NextMove t rs hs byte r
 
 -- Move r is one of the mode that is not passed over, or r is 64.
 pub record OpenMove (t rs hs : List ℕ) (mode r : ℕ) : Type 0 where
@@ -46,3 +48,7 @@ pub record OpenFrom (t rs hs : List ℕ) (mode byte r : ℕ) : Type 0 where
   pub move : OpenMove t rs hs mode r
   pub passed :
       (e : ℕ) → byte ≤ e → e < r → e < length (automaton_of t).moves → (move_at (automaton_of t) e).source ≡ mode → Open rs hs e → ⊥
+
+-- What is handed back names it, or no move.
+abbrev pub OpenNamed : List ℕ → List ℕ → List ℕ → ℕ → ℕ → Option ℕ → Type 0
+OpenNamed t rs hs mode byte result = (r : ℕ) × (result ≡ as_move r) × OpenFrom t rs hs mode byte r

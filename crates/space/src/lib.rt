@@ -12,7 +12,7 @@ use regions::{Region, nodes};
 use table::Table;
 
 // The number of nodes, and of those of a mode; the number of timers, and their ceilings, 0 behind the last one.
-#[derive(Clone, Copy)]
+#[derive(Clone, Copy, Debug, PartialEq, Eq)]
 pub struct Space {
     pub nodes: usize,
     pub block: usize,

@@ -7,38 +7,39 @@ use regions::Region;
 use rules::RULES;
 
 // "A move is passed over at the first of its conditions, or the target's, that fails": the first, from the move `from` on along the moves of its
-// mode, that is not passed over, or NONE. In the move's row of the rules the target's conditions are joined to its own: two for each timer, a lowest
-// place and one that is not reached. The contract speaks of every table whose rules these are.
-pub fn next_move(rules: &[u8; RULES], halves: [u8; Region::MOST_TIMERS], from: usize) -> usize
+// mode, that is not passed over. In the move's row of the rules the target's conditions are joined to its own: two for each timer, a lowest place and
+// one that is not reached. The contract speaks of every table whose rules these are.
+pub fn next_move(
+    rules: &[u8; RULES],
+    halves: [u8; Region::MOST_TIMERS],
+    from: Option<usize>,
+) -> Option<usize>
     requires { NextReady rules.now from }
     ensures { NextDone rules.now halves from result }
 {
     let mut next = from;
-    'moves: while next < rules::NONE {
-        let e = next;
-        next = rules::after(rules, e);
-        for timer in 0..Region::MOST_TIMERS {
-            if !rules::inside(rules, rules::GUARDS + e, timer, halves[timer]) {
-                continue 'moves;
-            }
+    while let Some(e) = next {
+        if rules::all_inside(rules, rules::GUARDS + e, halves) {
+            return next;
         }
-        return e;
+        next = rules::after(rules, e);
     }
-    rules::NONE
+    None
 }
 
-// The last of the prices 0 to `last` that is at most the bound. The prices rise from 0.
+// The last of the prices 0 to `last` that is at most the bound. The first of them is 0.
 pub fn last_at_most(prices: [u32; Region::MOST_CORNERS], last: usize, bound: usize) -> usize
     requires { (last < 4) × (get_or prices 0 0 ≡ 0) }
     ensures { LastAtMost prices last bound result }
 {
-    let mut i = last;
-    while bound < prices[i] as usize {
-        i -= 1;
+    for i in (1..last + 1).rev() {
+        if prices[i] as usize <= bound {
+            return i;
+        }
     }
-    i
+    0
 }
 
 // What resets do is found once for each of the eight reset bytes, and kept in an array. There this stands for a byte of which it was not found yet: no
-// image has more than 24 bits.
+// image has more than 24 bits. Eight options would take twice the stack.
 pub const NO_IMAGE: u32 = 0xFFFF_FFFF;

@@ -5,9 +5,8 @@ use mathlib.Core.Path.{refl}
 use Prim.Native.Nat.{ℕ, ◌*◌, ◌≤◌}
 use native.Mathlib.Omega.{arith}
 use Rattle.regions.specs.Nodes.{most_cells}
-use Rattle.regions.specs.Laws.Nodes.{corners-few, table-few}
+use Rattle.regions.specs.Laws.Nodes.{table-few}
 use Rattle.space.specs.declared.Space.{Space}
-use Rattle.space.specs.Laws.Shares.{few-modes, table-timers}
 use Rattle.space.proofs.Spaces.{block-few, nodes-few, space-is}
 use Rattle.space.proofs.space_of.Goals as goal
 
@@ -30,19 +29,8 @@ nodes-fit c =
     c.timers-timers.ensures c.ceilings-ceilings.ensures c.cell_count.ensures.0 c.corners.ensures
     c.modes.ensures c.cell_count.ensures.2
 
-pub overflow_cast-block : goal.overflow_cast-block
-overflow_cast-block c = omega (arith, c.cell_count.ensures.2)
-
-pub overflow_cast-block-2 : goal.overflow_cast-block-2
-overflow_cast-block-2 c =
-    omega (arith, c.corners.ensures, (corners-few c.timers-timers.result (omega (arith, c.timers-timers.ensures, table-timers c.args.table.now.bytes c.args.table.now.is_table))).1)
-
 pub overflow_mul-block : goal.overflow_mul-block
 overflow_mul-block c = omega (arith, block-fits c)
-
-pub overflow_cast-count : goal.overflow_cast-count
-overflow_cast-count c =
-    omega (arith, c.modes.ensures, few-modes c.args.table.now.bytes c.args.table.now.is_table)
 
 pub overflow_mul-count : goal.overflow_mul-count
 overflow_mul-count c = omega (arith, nodes-fit c)

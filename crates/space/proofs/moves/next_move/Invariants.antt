@@ -1,21 +1,24 @@
--- `space::moves::next_move` meets its contract. The outer loop has passed over the moves before `next`; the inner one has found the timers before
--- the present one in their windows. The outer measure is what is left to 64.
+-- `space::moves::next_move` meets its contract. The loop's invariant: the moves before the next one are passed over. The measure is what is left to 64.
 -- Assumes nothing.
+use mathlib.Core.Path.{◌≡◌}
 use mathlib.Core.List.{List}
-use Prim.Native.Nat.{ℕ, ◌+◌, ◌-◌, ◌≤◌}
-use Rattle.rules.proofs.TimerTests.{InUpTo}
+use Prim.Native.Nat.{ℕ, ◌-◌, ◌<◌}
+use Rattle.std.specs.Prelude.{Option, Some, None}
+use Rattle.rules.specs.Rules.{none, as_move}
 use Rattle.space.specs.Moves.{NextFrom}
 use Rattle.space.proofs.OpenMoves.{Passing}
 use Rattle.space.proofs.moves.next_move.Given as goal
 
-abbrev pub invariant-loop-timer : goal.invariant-loop-timer
-invariant-loop-timer l = (l.timer ≤ 3) × InUpTo l.rules (16 + l.e) l.halves l.timer
+abbrev left : Option ℕ → ℕ
+left None = 0
+left (Some e) = none - e
 
-abbrev pub decreases-loop-timer : goal.decreases-loop-timer
-decreases-loop-timer l = 3 - l.timer
+abbrev pub invariant-loop-next : goal.invariant-loop-next
+invariant-loop-next l = record {
+  few : (e : ℕ) → l.next ≡ Some e → e < none;
+  passing :
+      (t : List ℕ) (byte : ℕ) → l.fn.from ≡ as_move byte → NextFrom t l.rules byte → (r : ℕ) × (l.next ≡ as_move r) × Passing t l.rules l.halves byte r;
+}
 
-abbrev pub invariant-moves : goal.invariant-moves
-invariant-moves l = (t : List ℕ) → NextFrom t l.rules l.from → Passing t l.rules l.halves l.from l.next
-
-abbrev pub decreases-moves : goal.decreases-moves
-decreases-moves l = 64 - l.next
+abbrev pub decreases-loop-next : goal.decreases-loop-next
+decreases-loop-next l = left l.next

@@ -110,7 +110,8 @@ fn image_of(space: Space, at: NodeRegion, resets: u8) -> usize
     nodes::node_of(0, moved, corner, ceilings)
 }
 
-// It is found once for each reset byte. There are eight of them.
+// It is found once for each reset byte. There are eight of them. `steps` has the same for images of another kind: no clause can speak of both, since it
+// would range over predicates.
 fn image(images: &mut [u32; 8], space: Space, at: NodeRegion, resets: u8) -> usize
     requires { ImageReady space at resets × Images (NodeImage space at) images.old }
     ensures { ImageDone (NodeImage space at) resets images.new result }

@@ -2,7 +2,7 @@
 // steps of a walk use them.
 #![tactic(auto)]
 
-ghost use Rattle.table.specs.Held.{IsTable};
+ghost use Rattle.std.specs.Prelude.{◌≡◌, ◌/◌, ◌<◌, ◌≤◌};
 ghost use Rattle.space.specs.Space.{IsSpace, StartReady, IsStart};
 
 pub mod graph;
@@ -43,4 +43,12 @@ pub fn start_node(space: Space) -> usize
 {
     let ceilings = space.ceilings;
     nodes::node_of(0, Region::start(space.timers), 0, ceilings)
+}
+
+// The mode of a node, or of a state, of which each mode has so many. The unit's core divides in 32 bits.
+pub fn mode_of(node: usize, share: usize) -> usize
+    requires { (node < 65536) × (1 ≤ share) × (share < 65536) }
+    ensures { result ≡ node / share }
+{
+    (node as u32 / share as u32) as usize
 }

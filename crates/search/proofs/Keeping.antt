@@ -20,7 +20,7 @@ use Rattle.semantics.specs.Paths.Found.{words_at}
 use Rattle.queue.specs.Queue.{lows}
 use Rattle.queue.specs.Laws.Lows.{lows-charge, lows-steps}
 use Rattle.near.specs.declared.Cost.{Cost as CostHeld}
-use Rattle.near.specs.Near.{best_entry}
+use Rattle.near.specs.Near.{cost_entry}
 use Rattle.search.specs.Exploring.{costs_in}
 use Rattle.search.specs.Keep.{no_farther, is_near, KeptNear}
 
@@ -51,12 +51,12 @@ module _ (charge steps : ℕ) (best : Option CostHeld) (known : charge ≢ infin
         sym both ∙ sym (ap (no_farther charge steps) is) ∙ reached-near
 
 -- The entry that is left of a cost, and its words.
-near_none : (best : Option CostHeld) → near (best_entry best) unreached ≡ unreached
+near_none : (best : Option CostHeld) → near (cost_entry best) unreached ≡ unreached
 near_none None = refl
 near_none (Some b) = refl
 
 near-test :
-    (charge steps : ℕ) (best : Option CostHeld) → near (best_entry best) (reached (cost charge steps))
+    (charge steps : ℕ) (best : Option CostHeld) → near (cost_entry best) (reached (cost charge steps))
     ≡ cond (no_farther charge steps best) (reached (cost charge steps)) unreached
 near-test charge steps None = refl
 near-test charge steps (Some b) = refl
@@ -70,27 +70,27 @@ module _ (best : Option CostHeld) where
     -- By the test.
     kept-words :
         (x : Entry) → (charge ≡ infinity → x ≡ unreached) → (charge ≢ infinity → x ≡ reached (cost charge steps))
-        → entry_words (near (best_entry best) x) ≡ cond (is_near charge steps best) (charge ∷ steps ∷ []) (infinity ∷ infinity ∷ [])
+        → entry_words (near (cost_entry best) x) ≡ cond (is_near charge steps best) (charge ∷ steps ∷ []) (infinity ∷ infinity ∷ [])
     unfolding is_near
     kept-words x none some = at (ℕ_discrete charge infinity)
       where
         at :
             Dec (charge ≡ infinity)
-            → entry_words (near (best_entry best) x)
+            → entry_words (near (cost_entry best) x)
             ≡ cond (cond (eqb charge infinity) false (no_farther charge steps best)) (charge ∷ steps ∷ []) (infinity ∷ infinity ∷ [])
         at (yes e) =
-            ap (λ (y : Entry). entry_words (near (best_entry best) y)) (none e) ∙ ap entry_words (near_none best)
+            ap (λ (y : Entry). entry_words (near (cost_entry best) y)) (none e) ∙ ap entry_words (near_none best)
             ∙ ap (λ (b : Bool). cond (cond b false (no_farther charge steps best)) (charge ∷ steps ∷ []) (infinity ∷ infinity ∷ []))
             (sym (eq-eqb charge infinity e))
         at (no n) =
-            ap (λ (y : Entry). entry_words (near (best_entry best) y)) (some n) ∙ ap entry_words (near-test charge steps best)
+            ap (λ (y : Entry). entry_words (near (cost_entry best) y)) (some n) ∙ ap entry_words (near-test charge steps best)
             ∙ left-words (no_farther charge steps best)
             ∙ ap (λ (b : Bool). cond (cond b false (no_farther charge steps best)) (charge ∷ steps ∷ []) (infinity ∷ infinity ∷ []))
             (sym (ne_eqb charge infinity n))
 
 -- The words of the first v nodes are done, and all others are the same.
 pub record Keeping (nodes : ℕ) (best : Option CostHeld) (v : ℕ) (ws ws' : List ℕ) : Type 0 where
-  pub done : (u : ℕ) → u < v → words_at ws' u ≡ entry_words (near (best_entry best) (costs_in nodes ws u))
+  pub done : (u : ℕ) → u < v → words_at ws' u ≡ entry_words (near (cost_entry best) (costs_in nodes ws u))
   pub ahead : (u : ℕ) → v ≤ u → (charge_at ws' u ≡ charge_at ws u) × (steps_at ws' u ≡ steps_at ws u)
   pub rest : drop (2 * nodes) ws' ≡ drop (2 * nodes) ws
   pub kept : length ws' ≡ length ws
@@ -104,7 +104,7 @@ keeping_all nodes best ws ws' k = record { entries = k.done; rest = k.rest; kept
 -- One node more.
 module _ (nodes : ℕ) (best : Option CostHeld) (v : ℕ) (ws ws' : List ℕ) (room : 2 * nodes ≤ length ws) (h : v < nodes) (k : Keeping nodes best v ws ws') where
   keeping-next :
-      (c : Cost) → c.charge ∷ c.steps ∷ [] ≡ entry_words (near (best_entry best) (costs_in nodes ws v))
+      (c : Cost) → c.charge ∷ c.steps ∷ [] ≡ entry_words (near (cost_entry best) (costs_in nodes ws v))
       → Keeping nodes best (v + 1) ws (stored ws' v c)
   keeping-next c e = record {
     done = λ u l. at u l (ℕ_discrete u v);
@@ -118,7 +118,7 @@ module _ (nodes : ℕ) (best : Option CostHeld) (v : ℕ) (ws ws' : List ℕ) (r
       there : 2 * v + 1 < length ws'
       there = omega (arith, k.kept)
 
-      at : (u : ℕ) → u < v + 1 → Dec (u ≡ v) → words_at (stored ws' v c) u ≡ entry_words (near (best_entry best) (costs_in nodes ws u))
+      at : (u : ℕ) → u < v + 1 → Dec (u ≡ v) → words_at (stored ws' v c) u ≡ entry_words (near (cost_entry best) (costs_in nodes ws u))
       at u l (yes q) =
           rw q (ap₂ (λ (x y : ℕ). x ∷ y ∷ []) (stored-charge ws' v c there) (stored-steps ws' v c there) ∙ e)
       at u l (no n) =
@@ -133,7 +133,7 @@ module _ (nodes : ℕ) (best : Option CostHeld) (v : ℕ) (ws ws' : List ℕ) (r
     own-steps : steps ≡ steps_at (lows nodes ws) v
     own-steps = steps-are ∙ ap (λ (n : ℕ). n % 65536) (k.ahead v (omega arith)).1 ∙ sym (lows-steps nodes ws v h)
 
-    left : entry_words (near (best_entry best) (costs_in nodes ws v)) ≡ cond (is_near charge steps best) (charge ∷ steps ∷ []) (infinity ∷ infinity ∷ [])
+    left : entry_words (near (cost_entry best) (costs_in nodes ws v)) ≡ cond (is_near charge steps best) (charge ∷ steps ∷ []) (infinity ∷ infinity ∷ [])
     left =
         kept-words best charge steps (costs_in nodes ws v)
         (λ q. table-unreached (lows nodes ws) v (sym own-charge ∙ q))

@@ -14,7 +14,7 @@ use Rattle.semantics.specs.Graph.Near.{turned, near, near_words}
 use Rattle.semantics.specs.Paths.Found.{words_at, words-gathered}
 use Rattle.semantics.proofs.Paths.Near.{found-best, found-near, words-near}
 use Rattle.near.specs.declared.Cost.{Cost as CostHeld}
-use Rattle.near.specs.Near.{best_entry, NearRoom}
+use Rattle.near.specs.Near.{cost_entry, NearRoom}
 use Rattle.search.specs.Exploring.{Rooted, costs_in}
 use Rattle.search.specs.Keep.{KeptNear}
 use Rattle.search.specs.Seeding.{SeedReady, Seeded}
@@ -47,8 +47,8 @@ module _ {r : Rooted} (o : Searchable r) {ws : List ℕ} (room : 2 * r.graph.nod
         entries v h =
             kept.entries v h
             ∙ ap entry_words
-            (found-near r.graph r.start o.closed o.there o.weight o.light o.small (costs_in r.graph.nodes ws₂) (best_entry c) found.explored found.within
-            (best_entry c) found.best v h)
+            (found-near r.graph r.start o.closed o.there o.weight o.light o.small (costs_in r.graph.nodes ws₂) (cost_entry c) found.explored found.within
+            (cost_entry c) found.best v h)
 
         kept-rest : drop (2 * r.graph.nodes) ws₃ ≡ drop (2 * r.graph.nodes) ws
         kept-rest = kept.rest ∙ found.rest ∙ seeded-rest r.graph.nodes r.start ws seeding ws₁ seeded
@@ -67,8 +67,8 @@ module _ {r : Rooted} (o : Searchable r) {ws : List ℕ} (room : 2 * r.graph.nod
         pub search-done : SearchDone r ws ws₃ c
         search-done = record {
           cost-is =
-              found-best r.graph r.start o.closed o.there o.weight o.light o.small (costs_in r.graph.nodes ws₂) (best_entry c) found.explored found.within
-              (best_entry c) found.best;
+              found-best r.graph r.start o.closed o.there o.weight o.light o.small (costs_in r.graph.nodes ws₂) (cost_entry c) found.explored found.within
+              (cost_entry c) found.best;
           words = near-found;
           near = λ v h. words-near r.graph r.start o.closed o.there o.weight o.light o.small ws₃ _ near-found v h;
           rest = kept-rest;

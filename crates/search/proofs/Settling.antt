@@ -7,9 +7,7 @@ use Prim.Native.Nat.{ℕ, ◌+◌, ◌*◌, ◌%◌, ◌<◌}
 use native.Mathlib.Decide.{dec_lt}
 use native.Mathlib.Omega.{arith}
 use Rattle.semantics.specs.Graph.Path.{Edge, Target, charge_at, steps_at}
-use Rattle.semantics.proofs.Answers.Graph.{graph-nodes}
 use Rattle.semantics.specs.Answers.Modes.{graph-goal}
-use Rattle.table.specs.Fields.{most_price}
 use Rattle.table.specs.Held.{automaton_of}
 use Rattle.regions.specs.declared.nodes.NodeRegion.{NodeRegion}
 use Rattle.queue.specs.Queue.{lows}
@@ -17,34 +15,13 @@ use Rattle.queue.specs.Laws.Lows.{lows-charge, lows-steps}
 use Rattle.space.specs.declared.Space.{Space}
 use Rattle.space.specs.Space.{graph_of, start_of, Setting}
 use Rattle.space.specs.Laws.NodeRegion.{CornerAt}
-use Rattle.space.specs.Laws.Shares.{nodes-three, start-below}
 use Rattle.near.specs.declared.Cost.{Cost as CostHeld}
 use Rattle.search.specs.declared.edges.Source.{Source}
 use Rattle.search.specs.Exploring.{InHand, Relaxes}
-use Rattle.search.specs.Searches.{Searchable, VisitReady, AnyEdge, Visited}
+use Rattle.search.specs.Searches.{VisitReady, AnyEdge}
+use Rattle.search.specs.Laws.Searchable.{size}
 use Rattle.search.specs.Edges.{IsMove, IsWait, IsAny, rooted_of, Holding, EdgesReady, EdgesDone}
-use Rattle.search.specs.Laws.Goal.{goal-closed, goal-light, goal-small}
 use Rattle.search.specs.Laws.FirstNode.{first-hand}
-
-module _ {t rs : List ℕ} {s : Space} (set : Setting t rs s) (goal : ℕ) where
-  -- There are as many nodes as the struct says.
-  pub size : s.nodes ≡ (graph_of t goal).nodes
-  size = set.is-space.nodes-are ∙ sym (graph-nodes (automaton_of t) goal)
-
-  pub goal-searchable : Searchable (rooted_of t goal)
-  goal-searchable =
-      let a = automaton_of t in
-      let nodes = graph-nodes a goal in
-      let counted = set.is-space.nodes-are in
-      record {
-        two = omega (arith, nodes-three t set.is-table, nodes);
-        few = omega (arith, set.few, size);
-        there = omega (arith, start-below t set.is-table, nodes);
-        closed = goal-closed t set.is-table goal;
-        weight = most_price;
-        light = goal-light t set.is-table goal;
-        small = goal-small t set.is-table goal (omega (arith, set.few, counted));
-      }
 
 -- The struct that is made of a region and its cost.
 abbrev pub source_of : NodeRegion → CostHeld → Source

@@ -24,7 +24,7 @@ use Rattle.queue.specs.Laws.Lows.{lows-charge, lows-steps, costs-length, costs-r
 use Rattle.queue.specs.Laws.First.{first-pending, first-least}
 use Rattle.queue.specs.Laws.Once.{unsettled, unsettled_count, settled-once}
 use Rattle.near.specs.declared.Cost.{Cost as CostHeld}
-use Rattle.near.specs.Near.{best_entry}
+use Rattle.near.specs.Near.{cost_entry}
 use Rattle.search.specs.Exploring.{Rooted, costs_in, Between, Relaxes, hand-settles, relaxes-done}
 use Rattle.search.specs.Searches.{VisitReady, AnyEdge, FindReady, FoundTarget}
 use Rattle.search.specs.Laws.FirstNode.{none-explored, none-best, goal-explored, goal-within, goal-best}
@@ -149,7 +149,7 @@ module _ {r : Rooted} {ws₀ ws : List ℕ} (turn : Turn r ws₀ ws) where
       -- A target ends the loop.
       pub turn-target : Target r.graph node → FoundTarget r ws₀ ws (Some c)
       turn-target target =
-          let entry : reached (cost_in r.graph.nodes ws node) ≡ best_entry (Some c) =
+          let entry : reached (cost_in r.graph.nodes ws node) ≡ cost_entry (Some c) =
           ap₂ (λ (x y : ℕ). reached (cost x y)) (sym own-charge) (sym own-steps) in
           record {
             explored = subst (λ (x : Entry). Explored r.graph r.start x (costs_in r.graph.nodes ws)) entry (goal-explored turn.between node there first target);

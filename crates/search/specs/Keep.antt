@@ -6,7 +6,7 @@ use Rattle.semantics.specs.Graph.Distance.{entry_words}
 use Rattle.semantics.specs.Graph.Near.{near}
 use Rattle.semantics.specs.Paths.Found.{words_at}
 use Rattle.near.specs.declared.Cost.{Cost as CostHeld}
-use Rattle.near.specs.Near.{best_entry}
+use Rattle.near.specs.Near.{cost_entry}
 use Rattle.search.specs.Exploring.{costs_in}
 
 -- Whether a cost is no dearer and no farther than the best; any is, if there is none.
@@ -20,6 +20,6 @@ is_near charge steps best = cond (eqb charge infinity) false (no_farther charge 
 
 -- The words of each node are those of its cost, if it is as near as the best, and otherwise those of an unreached node. The rest is the same.
 pub record KeptNear (nodes : ℕ) (best : Option CostHeld) (ws ws' : List ℕ) : Type 0 where
-  pub entries : (v : ℕ) → v < nodes → words_at ws' v ≡ entry_words (near (best_entry best) (costs_in nodes ws v))
+  pub entries : (v : ℕ) → v < nodes → words_at ws' v ≡ entry_words (near (cost_entry best) (costs_in nodes ws v))
   pub rest : drop (2 * nodes) ws' ≡ drop (2 * nodes) ws
   pub kept : length ws' ≡ length ws

@@ -2,3 +2,4 @@
 pub mod Answers
 pub mod Goal
 pub mod FirstNode
+pub mod Searchable

@@ -11,7 +11,7 @@ use Rattle.semantics.specs.Paths.Near.{BestTarget, TargetWithin}
 use Rattle.queue.specs.Tournament.{none}
 use Rattle.queue.specs.Queue.{slot_at}
 use Rattle.near.specs.declared.Cost.{Cost as CostHeld}
-use Rattle.near.specs.Near.{best_entry}
+use Rattle.near.specs.Near.{cost_entry}
 use Rattle.search.specs.Exploring.{Rooted, costs_in, Between, Relaxes}
 
 -- The graph has two nodes or more, the start among them, and no charge comes to infinity.
@@ -50,16 +50,16 @@ pub record FindReady (r : Rooted) (ws : List ℕ) : Type 0 where
 -- The graph was explored from its start as far as the cost, which is the least of its targets; none, if no target is reached. The words behind those of the
 -- nodes are the same.
 pub record FoundTarget (r : Rooted) (ws ws' : List ℕ) (c : Option CostHeld) : Type 0 where
-  pub explored : Explored r.graph r.start (best_entry c) (costs_in r.graph.nodes ws')
-  pub within : (a : Cost) → best_entry c ≡ reached a → TargetWithin r.graph (costs_in r.graph.nodes ws') a
-  pub best : BestTarget r.graph (costs_in r.graph.nodes ws') (best_entry c)
+  pub explored : Explored r.graph r.start (cost_entry c) (costs_in r.graph.nodes ws')
+  pub within : (a : Cost) → cost_entry c ≡ reached a → TargetWithin r.graph (costs_in r.graph.nodes ws') a
+  pub best : BestTarget r.graph (costs_in r.graph.nodes ws') (cost_entry c)
   pub rest : drop (2 * r.graph.nodes) ws' ≡ drop (2 * r.graph.nodes) ws
   pub kept : length ws' ≡ length ws
 
 -- The cost is the least from the start to a target, none if there is no way to one, and the words have the least costs from the start to all nodes that are
 -- as near. The words behind those of the nodes are the same.
 pub record SearchDone (r : Rooted) (ws ws' : List ℕ) (c : Option CostHeld) : Type 0 where
-  pub cost-is : best_entry c ≡ distance r.graph r.start
+  pub cost-is : cost_entry c ≡ distance r.graph r.start
   pub words : ws' ≡ near_words r.graph r.start ++ drop (2 * r.graph.nodes) ws
   -- So, for a caller:
   pub near : NearCosts r.graph r.start (table ws')

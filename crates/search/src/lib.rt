@@ -6,12 +6,12 @@ ghost use Rattle.table.specs.Held.{automaton_of};
 ghost use Rattle.rules.specs.Rules.{IsRules};
 ghost use Rattle.search.specs.Outcome.{told, nodes_of, answered, searched, cleared};
 
-mod corners;
 mod edges;
 pub mod graph;
+mod to_goal;
 mod words;
 
-use crate::corners::ToGoal;
+use crate::to_goal::ToGoal;
 use regions::nodes;
 use rules::RULES;
 use space::graph::CornerGraph;

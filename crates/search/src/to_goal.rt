@@ -1,6 +1,6 @@
 // The graph of a table's corners, as the search goes through it.
 ghost use Rattle.search.specs.Edges.{rooted_of};
-ghost use Rattle.search.proofs.Goals.{to-goal-searchable};
+ghost use Rattle.search.specs.Laws.Searchable.{goal-searchable};
 
 use crate::edges;
 use crate::edges::Source;
@@ -19,7 +19,7 @@ pub struct ToGoal<'a> {
 impl Graph for ToGoal<'_> {
     ghost rooted = { λ g. rooted_of g.corners.table.now.bytes g.goal };
 
-    ghost searchable = { to-goal-searchable };
+    ghost searchable = { λ g. goal-searchable g.corners.setting g.goal };
 
     fn nodes(&self) -> usize {
         self.corners.space.nodes

@@ -7,14 +7,14 @@ ghost use Rattle.near.specs.Near.{BestRoom, IsBest};
 pub const INFINITY: u32 = 0xFFFF_FFFF;
 
 // A charge and a number of steps.
-#[derive(Clone, Copy)]
+#[derive(Clone, Copy, Debug, PartialEq, Eq)]
 pub struct Cost {
     pub charge: u32,
     pub steps: u32,
 }
 
-// The least cost of the goal's nodes: both INFINITY if none is reached.
-pub fn best(words: &[u32], nodes: usize, goal: usize, modes: usize) -> Cost
+// The least cost of the goal's nodes, if one is reached.
+pub fn best(words: &[u32], nodes: usize, goal: usize, modes: usize) -> Option<Cost>
     requires { BestRoom nodes modes words.now }
     ensures { IsBest nodes goal modes words.now result }
 {
@@ -30,12 +30,13 @@ pub fn best(words: &[u32], nodes: usize, goal: usize, modes: usize) -> Cost
                 charge = c;
                 steps = words[2 * v + 1];
             } else if c == charge {
-                let n = words[2 * v + 1];
-                if n < steps {
-                    steps = n;
-                }
+                steps = steps.min(words[2 * v + 1]);
             }
         }
     }
-    Cost { charge, steps }
+    if charge < INFINITY {
+        Some(Cost { charge, steps })
+    } else {
+        None
+    }
 }

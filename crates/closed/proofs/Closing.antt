@@ -5,7 +5,6 @@ use mathlib.Core.Bool.{Bool, true, false, cond, ◌&&◌, and-true}
 use mathlib.Core.List.{List, [], ◌∷◌, ◌++◌, map}
 use Prim.Native.Nat.{ℕ, zero, suc, ◌+◌, ◌/◌, ◌≤◌, ◌<◌, min}
 use native.Mathlib.Omega.{arith}
-use borrow.Author.Tests.{ne_eqb}
 use lib.Dec.{eqb}
 use lib.ListN.{length, length-drop, get_or, take, drop}
 use lib.Seq.{drop-drop, drop-nil, take_all}
@@ -22,37 +21,10 @@ use Rattle.table.specs.Meaning.{comparison_of, conditions_from, mode_of, move_of
 use Rattle.table.specs.Held.{mode_from, move_from, records_from, fields_of, automaton_of, IsTable}
 use Rattle.table.specs.Theorems.Access.{table-length, mode-count, move-count}
 use Rattle.closed.specs.Closed.{rows_closed}
-use Rattle.conditions.proofs.Codes.{code-greater}
 
 -- A condition byte, or 0 for none, is closed.
-abbrev pub byte_closed : ℕ → Bool
+abbrev byte_closed : ℕ → Bool
 byte_closed b = cond (eqb b 0) true (is_closed (comparison_of (b / 16)))
-
--- By its code, b / 16.
-none-closed : (t : Bool) → cond t true false ≡ t
-none-closed true = refl
-none-closed false = refl
-
-code-closed : (code : ℕ) → 2 ≤ code → code ≤ 4 → is_closed (comparison_of code) ≡ true
-code-closed zero l h = absurd (omega arith)
-code-closed (suc zero) l h = absurd (omega arith)
-code-closed (suc (suc zero)) l h = refl
-code-closed (suc (suc (suc zero))) l h = refl
-code-closed (suc (suc (suc (suc zero)))) l h = refl
-code-closed (suc (suc (suc (suc (suc n))))) l h = absurd (omega arith)
-
-module _ (b : ℕ) where
-  pub byte-none : b / 16 ≡ 0 → byte_closed b ≡ eqb b 0
-  byte-none e = rw e (none-closed (eqb b 0))
-
-  pub byte-less : b / 16 ≡ 1 → byte_closed b ≡ false
-  byte-less e = rw (ne_eqb b 0 (λ z. omega arith), e)
-
-  pub byte-closed : 2 ≤ b / 16 → b / 16 ≤ 4 → byte_closed b ≡ true
-  byte-closed l h = rw (ne_eqb b 0 (λ z. omega arith)) (code-closed (b / 16) l h)
-
-  pub byte-greater : 4 < b / 16 → byte_closed b ≡ false
-  byte-greater l = rw (ne_eqb b 0 (λ z. omega arith), code-greater (b / 16) l)
 
 -- A row is closed if each byte of it is.
 row_cons : (place b : ℕ) (bs : List ℕ) → all_closed (conditions_from place (b ∷ bs)) ≡ byte_closed b && all_closed (conditions_from (suc place) bs)
@@ -62,7 +34,7 @@ row_cons place b bs = go (eqb b 0) refl
     go true e = rw e
     go false e = rw e
 
-pub row_one : (b : ℕ) → all_closed (conditions_from 0 (b ∷ [])) ≡ byte_closed b
+row_one : (b : ℕ) → all_closed (conditions_from 0 (b ∷ [])) ≡ byte_closed b
 row_one b = row_cons 0 b [] ∙ and-true (byte_closed b)
 
 pub row-each : (place : ℕ) (bs : List ℕ) → list_all (λ b. all_closed (conditions_from 0 (b ∷ []))) bs ≡ all_closed (conditions_from place bs)

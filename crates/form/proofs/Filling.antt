@@ -5,18 +5,17 @@ use native.Mathlib.Numerals.{add-one}
 use native.Mathlib.Omega.{arith}
 use mathlib.Core.Path.{◌≡◌, sym, ap, ◌∙◌}
 use mathlib.Core.List.{List, [], ◌∷◌, ◌++◌, map, map-append}
-use lib.ListN.{length, get_or, take, drop, set, length-drop}
+use lib.ListN.{length, get_or, take, drop, length-drop}
 use borrow.Rule.Slice.PartMut.{mid_of, put_mid, same_len_mid}
 use Rattle.std.proofs.lemmas.Slice.{take-put_mid}
-use lib.Seq.{length-take-le, take-suc, get_or-drop, take-suc-set, drop-drop}
+use lib.Seq.{length-take-le, take-suc, get_or-drop, drop-drop}
 use Rattle.table.specs.Held.{flat, records_from, fields_of, IsTable}
 use Rattle.reader.specs.Read.{accepted, rejected, read}
 use Rattle.reader.specs.Reading.{Accepted, Refused}
-use Rattle.form.specs.Form.{place_from}
 use Rattle.form.specs.Formed.{place, places, formed}
 use Rattle.form.specs.Filled.{outcome, filled}
 use Rattle.form.specs.Appends.{Appends, mode_widened, move_widened}
-use Rattle.form.specs.Theorems.Appending.{append-then, append-whole, records-more, flat-more}
+use Rattle.form.specs.Theorems.Appending.{append-then, append-whole, flat-more}
 use Rattle.form.specs.Theorems.Widening.{widened}
 
 -- One byte more of those from a place on.
@@ -80,11 +79,3 @@ module _ (bytes form : List ℕ) where
       (fields_of t) → outcome Accepted form' ≡ filled bytes form
   unfolding filled
   filled-accepted t e k = rw (e, k)
-
--- One condition more of those in a form's places.
-pub six-more : {b : ℕ} (six u : List ℕ) (i : ℕ) → i < length six → take i six ≡ records_from place_from 2 i u → b ≡ place_from (drop (2 * i) u) →
-    take (i + 1) (set six i b) ≡ records_from place_from 2 (i + 1) u
-six-more {b} six u i h p e =
-    rw (add-one i)
-    (take-suc-set six i b h ∙ ap (λ (l : List ℕ). l ++ b ∷ []) p ∙ ap (λ (c : ℕ). records_from place_from 2 i u ++ c ∷ []) e
-    ∙ sym (records-more place_from 2 i u))

@@ -45,11 +45,14 @@ pub fn conditions(form: &[u8; FORM], from: usize) -> [u8; CONDITIONS]
     requires { from + 12 ≤ 1384 }
     ensures { result ≡ six_places (drop from form.now) }
 {
-    let mut six = [0u8; CONDITIONS];
-    for i in 0..CONDITIONS {
-        six[i] = condition_at(form, from + 2 * i);
-    }
-    six
+    [
+        condition_at(form, from),
+        condition_at(form, from + 2),
+        condition_at(form, from + 4),
+        condition_at(form, from + 6),
+        condition_at(form, from + 8),
+        condition_at(form, from + 10),
+    ]
 }
 
 // The condition in a place, as a byte.

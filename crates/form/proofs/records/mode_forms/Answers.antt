@@ -4,22 +4,15 @@ use mathlib.Core.Path.{◌≡◌}
 use lib.ListN.{drop}
 use lib.Seq.{drop-drop}
 use Rattle.form.specs.Appends.{mode_widened}
-use Rattle.form.specs.Theorems.Appending.{append-none, append-record}
+use Rattle.form.specs.Theorems.Appending.{append-record}
 use native.Mathlib.Omega.{arith}
 use Rattle.form.proofs.records.mode_forms.Goals as goal
-
-pub loop-i-init : goal.loop-i-init
-loop-i-init c = (omega arith, append-none c.args.form.now 8)
 
 pub loop-i-preserved : goal.loop-i-preserved
 loop-i-preserved c =
     let t = c.args.table.now in
-    let i = c.loop-i.i in (
-      omega arith,
-      append-record mode_widened 8 14 i (drop 8 t) c.loop-i.invariant.1 (rw (drop-drop (8 * i) 8 t) c.mode_form.ensures),
-    )
+    let i = c.loop-i.i in
+    append-record mode_widened 8 14 i (drop 8 t) c.loop-i.invariant (rw (drop-drop (8 * i) 8 t) c.mode_form.ensures)
 
 pub returns : goal.returns
-returns c =
-    let all : c.loop-i.i ≡ 16 = omega (arith, c.loop-i.invariant.0) in
-    rw all at c.loop-i.invariant.1
+returns c = let all : c.loop-i.i ≡ 16 = omega arith in rw all at c.loop-i.invariant

@@ -36,16 +36,24 @@ pub fn none_zero(group: [u8; MOST_TIMERS], n: usize) -> bool
 }
 
 // Each of the first n groups is one higher.
-pub fn raised(mut group: [u8; MOST_TIMERS], n: usize) -> [u8; MOST_TIMERS]
+pub fn raised(group: [u8; MOST_TIMERS], n: usize) -> [u8; MOST_TIMERS]
     requires { (n ≤ most_timers) × ((i : ℕ) → get_or group i 0 < 255) }
     ensures { result ≡ map_to suc n group }
 {
-    for (i, g) in group.iter_mut().enumerate() {
+    raised_by(group, n, 1)
+}
+
+// Each of the first n values is higher by a number.
+pub fn raised_by(mut values: [u8; MOST_TIMERS], n: usize, by: u8) -> [u8; MOST_TIMERS]
+    requires { (n ≤ most_timers) × ((i : ℕ) → get_or values i 0 + by < 256) }
+    ensures { result ≡ map_to (λ v. v + by) n values }
+{
+    for (i, v) in values.iter_mut().enumerate() {
         if i < n {
-            *g += 1;
+            *v += by;
         }
     }
-    group
+    values
 }
 
 // Each of the first n prices is greater by price.

@@ -4,10 +4,10 @@ use mathlib.Core.Path.{◌≡◌, refl, ap, ◌∙◌, sym}
 use mathlib.Core.Bool.{Bool, true, false, cond}
 use mathlib.Core.List.Permᴰ
 use mathlib.Core.List.{List, [], ◌∷◌, Permᴰ}
-use Prim.Native.Nat.{ℕ, zero, suc, ◌+◌, ◌-◌, ◌/◌, ◌%◌, ◌^◌, ◌<◌, ◌≤◌}
+use Prim.Native.Nat.{ℕ, zero, suc, ◌-◌, ◌/◌, ◌%◌, ◌^◌, ◌<◌, ◌≤◌}
+use native.Mathlib.Numerals.{sub-one}
 use native.Mathlib.Omega.{arith}
 use borrow.Author.Tests.{eq-eqb, ne_eqb}
-use lib.ListN.{drop}
 use Rattle.semantics.specs.Region.{PricedRegion, reset, reset_all}
 use Rattle.semantics.proofs.Regions.Commute.{resets-rearranged}
 use Rattle.table.specs.Meaning.{stands, named, named_timers}
@@ -36,52 +36,51 @@ named-rearranged byte (Permᴰ.swap {a = x} {b = y} {l = zs} e f) = rw (sym e, s
     go false false l = Permᴰ.refl l
 named-rearranged byte (Permᴰ.trans p q) = Permᴰ.trans (named-rearranged byte p) (named-rearranged byte q)
 
--- The timers from the highest number to the lowest, without the first k.
+-- The first n timers, from the highest number to the lowest.
 abbrev left : ℕ → List ℕ
-left k = drop k (2 ∷ 1 ∷ 0 ∷ [])
+left zero = []
+left (suc n) = n ∷ left n
 
-left-next : (byte k : ℕ) → k < most_timers → named byte (left k) ≡ cond (stands byte (2 - k)) ((2 - k) ∷ named byte (left (k + 1))) (named byte (left (k + 1)))
-left-next byte zero h = refl
-left-next byte (suc zero) h = refl
-left-next byte (suc (suc zero)) h = refl
-left-next byte (suc (suc (suc k))) h = absurd (omega arith)
+left-next :
+    (byte n : ℕ) → 0 < n
+    → named byte (left n) ≡ cond (stands byte (n - 1)) ((n - 1) ∷ named byte (left (n - 1))) (named byte (left (n - 1)))
+left-next byte zero h = absurd (omega arith)
+left-next byte (suc n) h = rw (sub-one (suc n)) refl
 
--- s is r after the first k timers: the named ones that are left, reset of s, give what all give of r.
-pub record ResetSome (byte : ℕ) (r : PricedRegion) (k : ℕ) (s : Region) : Type 0 where
-  pub few : k ≤ most_timers
+-- The first n timers are left, and s is r after the others: the named ones that are left, reset of s, give what all give of r.
+pub record ResetSome (byte : ℕ) (r : PricedRegion) (n : ℕ) (s : Region) : Type 0 where
+  pub few : n ≤ most_timers
   pub valid : Valid s
-  pub gives : reset_all (named byte (left k)) (view s) ≡ reset_all (named_timers byte) r
+  pub gives : reset_all (named byte (left n)) (view s) ≡ reset_all (named_timers byte) r
 
 -- Before the first one: all of them, in the order of the loop.
-pub none-reset : (byte : ℕ) (s : Region) → Valid s → ResetSome byte (view s) 0 s
+pub none-reset : (byte : ℕ) (s : Region) → Valid s → ResetSome byte (view s) most_timers s
 none-reset byte s v = record {
   few = omega arith;
   valid = v;
   gives = resets-rearranged (named-rearranged byte (Permᴰ.reverse (0 ∷ 1 ∷ 2 ∷ []))) (view s) v.well_formed;
 }
 
-module _ (byte : ℕ) (r : PricedRegion) (k : ℕ) (s : Region) (h : ResetSome byte r k s) where
+module _ (byte : ℕ) (r : PricedRegion) (n : ℕ) (s : Region) (h : ResetSome byte r n s) where
   -- The byte names the next timer, and it is reset.
-  pub named-reset : (t : Region) → k < most_timers → byte / 2 ^ (2 - k) % 2 ≡ 1 → t ≡ pack (reset (2 - k) (view s)) → ResetSome byte r (k + 1) t
+  pub named-reset : (t : Region) → 0 < n → byte / 2 ^ (n - 1) % 2 ≡ 1 → t ≡ pack (reset (n - 1) (view s)) → ResetSome byte r (n - 1) t
   unfolding reset_all
-  named-reset t inside e is =
-      let g = reset-gives s t h.valid (2 - k) is in
-      let next = rw (eq-eqb _ 1 e) at (left-next byte k inside) in
+  named-reset t some e is =
+      let g = reset-gives s t h.valid (n - 1) is in
+      let next = rw (eq-eqb _ 1 e) at (left-next byte n some) in
       record {
-        few = omega arith;
+        few = omega (arith, h.few);
         valid = g.valid;
-        gives = ap (reset_all (named byte (left (k + 1)))) g.seen ∙ (rw next at h.gives);
+        gives = ap (reset_all (named byte (left (n - 1)))) g.seen ∙ (rw next at h.gives);
       }
 
-  -- The byte does not name it, and the region stays.
-  pub unnamed-kept : (t : Region) → k < most_timers → (byte / 2 ^ (2 - k) % 2 ≡ 1 → ⊥) → t ≡ s → ResetSome byte r (k + 1) t
-  unnamed-kept t inside n is =
-      let next = rw (ne_eqb _ 1 n) at (left-next byte k inside) in
-      rw is (record { few = omega arith; valid = h.valid; gives = rw next at h.gives })
+  -- The byte does not name it.
+  pub unnamed-kept : 0 < n → (byte / 2 ^ (n - 1) % 2 ≡ 1 → ⊥) → ResetSome byte r (n - 1) s
+  unnamed-kept some other =
+      let next = rw (ne_eqb _ 1 other) at (left-next byte n some) in
+      record { few = omega (arith, h.few); valid = h.valid; gives = rw next at h.gives }
 
   -- No timer is left.
-  pub all-reset : most_timers ≤ k → s ≡ pack (reset_all (named_timers byte) r)
+  pub all-reset : n ≡ 0 → s ≡ pack (reset_all (named_timers byte) r)
   unfolding reset_all
-  all-reset past =
-      let e : k ≡ most_timers = omega (arith, h.few) in
-      h.valid.held ∙ ap pack (ap (λ (i : ℕ). reset_all (named byte (left i)) (view s)) (sym e) ∙ h.gives)
+  all-reset e = h.valid.held ∙ ap pack (ap (λ (k : ℕ). reset_all (named byte (left k)) (view s)) (sym e) ∙ h.gives)

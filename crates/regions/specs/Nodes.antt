@@ -1,14 +1,12 @@
 -- How many nodes a table has, and how the struct `NodeAt` holds a node.
 -- Assumes nothing.
-use Rattle.std.specs.Prelude.{◌≡◌, cond, List, ℕ, suc, leb, take}
+use Rattle.std.specs.Prelude.{◌≡◌, cond, List, ℕ, suc, leb, take, Option, Some, None}
 use Rattle.semantics.specs.Region.{PricedRegion}
 use Rattle.semantics.specs.Answer.{count_from}
 use Rattle.semantics.specs.Nodes.Node.{Node, node_of, node_number}
 pub use Rattle.table.specs.Fields.{most_modes, most_ceiling}
 pub use Rattle.corners.specs.Cells.{most_cells, most_cell_number, CeilingsFew}
 use Rattle.corners.specs.Held.{pack_corner}
-use Rattle.regions.specs.declared.nodes.Nodes.{Nodes}
-use Rattle.regions.specs.declared.nodes.Nodes.TheVariants.{Count, TooMany}
 use Rattle.regions.specs.declared.nodes.NodeAt.{NodeAt}
 use Rattle.regions.specs.declared.nodes.NodeRegion.{NodeRegion}
 use Rattle.regions.specs.Held.{most_timers, pad, pack, highest}
@@ -17,8 +15,8 @@ use Rattle.regions.specs.Held.{most_timers, pad, pack, highest}
 abbrev pub most_nodes : ℕ
 most_nodes = 65536
 
-abbrev pub bounded : ℕ → Nodes
-bounded e = cond (leb e most_nodes) (Count e) TooMany
+abbrev pub bounded : ℕ → Option ℕ
+bounded e = cond (leb e most_nodes) (Some e) None
 
 -- Behind the first n ceilings there is 0.
 abbrev pub Padded : ℕ → List ℕ → Type 0

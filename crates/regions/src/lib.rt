@@ -30,9 +30,6 @@ impl Region {
 
     pub const MOST_CORNERS: usize = arrays::MOST_CORNERS;
 
-    // The highest number of a timer, in 32 bits.
-    const LAST_TIMER: u32 = Region::MOST_TIMERS as u32 - 1;
-
     // "The start region has all timers in r0 and the single price 0."
     pub fn start(timers: usize) -> Region
         requires { timers ≤ most_timers }
@@ -65,10 +62,8 @@ impl Region {
         ensures { result ≡ pack (linger rate (view self)) }
     {
         if self.no_zero() {
-            let top = self.top as usize;
-            let highest = self.prices[top];
-            let waited = self.prices[0] + rate;
-            self.prices[top] = arrays::least(highest, waited);
+            let top = usize::from(self.top);
+            self.prices[top] = self.prices[top].min(self.prices[0] + rate);
         }
         self
     }
@@ -91,10 +86,9 @@ impl Region {
         ensures { result ≡ pack (reset_all (named_timers resets) (view self)) }
     {
         let mut region = self;
-        for done in 0..Region::MOST_TIMERS as u32 {
-            let timer = Region::LAST_TIMER - done;
+        for timer in (0..Region::MOST_TIMERS).rev() {
             if (resets >> timer) % 2 == 1 {
-                region = region.reset(timer as usize);
+                region = region.reset(timer);
             }
         }
         region
@@ -105,9 +99,7 @@ impl Region {
         requires { Valid self × PriceRoom price (view self) }
         ensures { result ≡ pack (charge price (view self)) }
     {
-        let old = self.prices;
-        let prices = arrays::charged(old, self.top() + 1, price);
-        self.prices = prices;
+        self.prices = arrays::charged(self.prices, self.top() + 1, price);
         self
     }
 
@@ -117,9 +109,12 @@ impl Region {
         requires { Valid self × (timer < most_timers) }
         ensures { result ≡ meets (condition_of timer condition) (view self) }
     {
-        let whole = self.whole;
-        let group = self.group;
-        compare::meets_at(condition / 16, condition % 16, whole[timer], group[timer])
+        compare::meets_at(
+            condition / 16,
+            condition % 16,
+            self.whole[timer],
+            self.group[timer],
+        )
     }
 
     // Whether all points of the region have each timer at or below its ceiling. Ceilings past the last timer play no part.
@@ -127,14 +122,12 @@ impl Region {
         requires { Valid self }
         ensures { result ≡ within (take self.timers ceilings) (view self) }
     {
-        let n = self.timers as usize;
-        let whole = self.whole;
-        let group = self.group;
+        let n = usize::from(self.timers);
         for timer in 0..Region::MOST_TIMERS {
             if n <= timer {
                 return true;
             }
-            if !compare::at_most(ceilings[timer], whole[timer], group[timer]) {
+            if !compare::at_most(ceilings[timer], self.whole[timer], self.group[timer]) {
                 return false;
             }
         }
@@ -146,7 +139,7 @@ impl Region {
         requires { Valid self }
         ensures { result ≡ top (view self) }
     {
-        self.top as usize
+        usize::from(self.top)
     }
 
     // The prices of the corners, and 0 behind them.
@@ -154,8 +147,7 @@ impl Region {
         requires { Valid self }
         ensures { result ≡ pad most_corners (view self).prices }
     {
-        let corners = self.prices;
-        corners
+        self.prices
     }
 
     // Where each timer stands in half minutes: at an even place on a whole minute, at an odd one between two. A timer that is not there is at 0.
@@ -163,12 +155,11 @@ impl Region {
         requires { Valid self × HalfRoom (view self) }
         ensures { result ≡ half (view self) 0 ∷ half (view self) 1 ∷ half (view self) 2 ∷ [] }
     {
-        let whole = self.whole;
-        let group = self.group;
-        let a = compare::half(whole[0], group[0]);
-        let b = compare::half(whole[1], group[1]);
-        let c = compare::half(whole[2], group[2]);
-        [a, b, c]
+        [
+            compare::half(self.whole[0], self.group[0]),
+            compare::half(self.whole[1], self.group[1]),
+            compare::half(self.whole[2], self.group[2]),
+        ]
     }
 
     // "The corners of a cell number 3, 13 or 75 for one, two or three timers."
@@ -184,9 +175,9 @@ impl Region {
         requires { Valid self × (index ≤ self.top) }
         ensures { result ≡ corner_number self.timers (corner_of (view self) index) }
     {
-        let group = self.group;
-        let place = 16 * (self.timers - 1 + group[2]) + 4 * group[0] + group[1];
-        tables::first_corner(place as usize) as usize + index
+        let [a, b, c] = self.group;
+        let place = 16 * (self.timers - 1 + c) + 4 * a + b;
+        usize::from(tables::first_corner(usize::from(place))) + index
     }
 
     // Whether r0 is empty.
@@ -194,8 +185,7 @@ impl Region {
         requires { Valid self }
         ensures { result ≡ no_zero (view self) }
     {
-        let group = self.group;
-        arrays::none_zero(group, self.timers as usize)
+        arrays::none_zero(self.group, usize::from(self.timers))
     }
 
     // "Delay, r0 not empty: every group moves up one place, r0 is empty, and c0 + rate is added at the end."
@@ -203,32 +193,24 @@ impl Region {
         requires { Valid self × PriceRoom rate (view self) × (no_zero (view self) ≡ false) }
         ensures { result ≡ pack (leave rate (view self)) }
     {
-        let top = self.top + 1;
-        let old = self.group;
-        let group = arrays::raised(old, self.timers as usize);
-        self.top = top;
-        self.group = group;
-        self.prices[top as usize] = self.prices[0] + rate;
+        self.top += 1;
+        self.group = arrays::raised(self.group, usize::from(self.timers));
+        self.prices[usize::from(self.top)] = self.prices[0] + rate;
         self
     }
 
     // "Delay, r0 empty: rk becomes r0, its whole parts rise by 1, c0 is dropped."
-    fn arrive(mut self) -> Region
+    fn arrive(self) -> Region
         requires { Valid self × WholeRoom (view self) × (no_zero (view self) ≡ true) }
         ensures { result ≡ pack (arrive (view self)) }
     {
-        let top = self.top;
-        let old_whole = self.whole;
-        let old_group = self.group;
-        let old_prices = self.prices;
-        let whole = arrays::all_risen(top, old_group, old_whole);
-        let group = arrays::all_wrapped(top, old_group);
-        let prices = arrays::shifted(old_prices);
-        self.top = top - 1;
-        self.whole = whole;
-        self.group = group;
-        self.prices = prices;
-        self
+        Region {
+            top: self.top - 1,
+            whole: arrays::all_risen(self.top, self.group, self.whole),
+            group: arrays::all_wrapped(self.top, self.group),
+            prices: arrays::shifted(self.prices),
+            ..self
+        }
     }
 
     // Whether the timer is alone in its group, which is not r0.
@@ -236,13 +218,8 @@ impl Region {
         requires { Valid self × (timer < most_timers) }
         ensures { result ≡ alone timer (view self).group }
     {
-        let group = self.group;
-        let g = group[timer];
-        if 0 < g {
-            arrays::count_of(group, self.timers as usize, g) == 1
-        } else {
-            false
-        }
+        let g = self.group[timer];
+        0 < g && arrays::count_of(self.group, usize::from(self.timers), g) == 1
     }
 
     // "If it was alone in ri, i at least 1, the prices c(k-i) and c(k-i+1) become one, the smaller."
@@ -250,17 +227,12 @@ impl Region {
         requires { Valid self × (timer < most_timers) × (alone timer (view self).group ≡ true) }
         ensures { result ≡ pack (reset timer (view self)) }
     {
-        let top = self.top;
-        let old_group = self.group;
-        let old_prices = self.prices;
-        let g = old_group[timer];
-        let group = arrays::all_lowered(g, old_group);
-        let prices = arrays::merged(old_prices, (top - g) as usize);
-        self.top = top - 1;
+        let g = self.group[timer];
+        self.prices = arrays::merged(self.prices, usize::from(self.top - g));
+        self.group = arrays::all_lowered(g, self.group);
+        self.top -= 1;
         self.whole[timer] = 0;
-        self.group = group;
         self.group[timer] = 0;
-        self.prices = prices;
         self
     }
 

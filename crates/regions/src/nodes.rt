@@ -15,13 +15,6 @@ use table::Table;
 // "E may be at most 65,536."
 pub const MOST_NODES: usize = 65536;
 
-// The number of nodes, if there are not too many.
-#[derive(Clone, Copy)]
-pub enum Nodes {
-    Count(usize),
-    TooMany,
-}
-
 // A node with the region of which it is a corner: its mode, the region with its corners' indices as prices, the number of the node that is the
 // region's corner 0, and the node's own index. The nodes of a region's corners have numbers in a row.
 #[derive(Clone, Copy)]
@@ -58,9 +51,8 @@ pub fn node_of(
     requires { Valid region × (index ≤ region.top) × (mode < most_modes) × CeilingsFew ceilings × Padded region.timers ceilings }
     ensures { result ≡ node_number (take region.timers ceilings) (node_of mode (view region) index) }
 {
-    let whole = region.whole;
-    let cell = mode as u32 * cells(ceilings) + cell_number(ceilings, whole);
-    let first = cell * tables::corner_count(region.timers as usize);
+    let cell = mode as u32 * cells(ceilings) + cell_number(ceilings, region.whole);
+    let first = cell * tables::corner_count(usize::from(region.timers));
     first as usize + region.corner(index)
 }
 
@@ -72,12 +64,10 @@ fn node_at(timers: usize, ceilings: [u8; Region::MOST_TIMERS], number: u32) -> N
     let corners = tables::corner_count(timers);
     let cells = cells(ceilings);
     let cell = number / corners;
-    let whole = cell_at(ceilings, cell % cells);
-    let corner = tables::corner_at(timers, (number % corners) as usize);
     NodeAt {
         mode: (cell / cells) as usize,
-        whole,
-        corner,
+        whole: cell_at(ceilings, cell % cells),
+        corner: tables::corner_at(timers, (number % corners) as usize),
     }
 }
 
@@ -85,7 +75,7 @@ fn node_at(timers: usize, ceilings: [u8; Region::MOST_TIMERS], number: u32) -> N
 fn index_to(top: u8, i: u32) -> u32
     ensures { result ≡ cond (leb i top) i 0 }
 {
-    if i <= top as u32 { i } else { 0 }
+    if i <= u32::from(top) { i } else { 0 }
 }
 
 // The region of which the node with a number is a corner.
@@ -93,35 +83,30 @@ pub fn region_at(timers: usize, ceilings: [u8; Region::MOST_TIMERS], number: usi
     requires { (1 ≤ timers) × (timers ≤ most_timers) × CeilingsFew ceilings × Padded timers ceilings × (number < most_nodes) }
     ensures { result ≡ pack_node_region (take timers ceilings) (node_at (take timers ceilings) number) }
 {
-    let node = node_at(timers, ceilings, number as u32);
-    let corner = node.corner;
-    let top = corner.top;
-    let whole = node.whole;
-    let group = corner.group;
-    let region = Region {
-        timers: timers as u8,
-        top,
+    let NodeAt {
+        mode,
         whole,
-        group,
-        prices: [0, index_to(top, 1), index_to(top, 2), index_to(top, 3)],
-    };
+        corner: CornerAt { group, index, top },
+    } = node_at(timers, ceilings, number as u32);
     NodeRegion {
-        mode: node.mode,
-        region,
-        first: number - corner.index,
-        index: corner.index,
+        mode,
+        region: Region {
+            timers: timers as u8,
+            top,
+            whole,
+            group,
+            prices: [0, index_to(top, 1), index_to(top, 2), index_to(top, 3)],
+        },
+        first: number - index,
+        index,
     }
 }
 
 // "E = m × the product of all (ceiling + 1) × that number", if it is not above 65,536.
-pub fn node_count(table: &Table) -> Nodes
+pub fn node_count(table: &Table) -> Option<usize>
     ensures { result ≡ bounded (node_count (automaton_of table.now.bytes)) }
 {
     let modes = table.modes() as u32;
-    let count = modes * cells(table.ceilings()) * tables::corner_count(table.timers());
-    if count as usize <= MOST_NODES {
-        Nodes::Count(count as usize)
-    } else {
-        Nodes::TooMany
-    }
+    let count = (modes * cells(table.ceilings()) * tables::corner_count(table.timers())) as usize;
+    (count <= MOST_NODES).then_some(count)
 }

@@ -46,11 +46,10 @@ pub fn state_at(states: States, node: usize) -> State
     requires { StatesReady states × (node < most_nodes) }
     ensures { IsState states node result }
 {
-    let ceilings = states.ceilings;
     let cells = states.cells as u32;
     State {
         mode: (node as u32 / cells) as usize,
-        values: cell_at(ceilings, node as u32 % cells),
+        values: cell_at(states.ceilings, node as u32 % cells),
     }
 }
 
@@ -59,14 +58,7 @@ pub fn waited(values: [u8; MOST_TIMERS], timers: usize, minutes: u8) -> [u8; MOS
     requires { (timers ≤ most_timers) × ((i : ℕ) → get_or values i 0 + minutes < 256) }
     ensures { result ≡ map_to (λ v. v + minutes) timers values }
 {
-    let mut later = values;
-    for i in 0..MOST_TIMERS {
-        if timers <= i {
-            return later;
-        }
-        later[i] = values[i] + minutes;
-    }
-    later
+    arrays::raised_by(values, timers, minutes)
 }
 
 // The places of the timers in half minutes, by which the rules go.
@@ -74,6 +66,7 @@ pub fn halves(values: [u8; MOST_TIMERS]) -> [u8; MOST_TIMERS]
     requires { (i : ℕ) → get_or values i 0 < 128 }
     ensures { result ≡ map (λ v. 2 * v) values }
 {
+    // A `map` owes at each call that the value is below 128, and the check does not find that.
     [2 * values[0], 2 * values[1], 2 * values[2]]
 }
 
@@ -101,8 +94,7 @@ pub fn lead(states: States, table: &Table, values: [u8; MOST_TIMERS], e: usize) 
     requires { LeadReady table.now.bytes states values e }
     ensures { LeadDone table.now.bytes values e result }
 {
-    let ceilings = states.ceilings;
     let target = table.target(e) as u32;
-    let cell = cell_number(ceilings, zeroed(values, table.resets(e)));
+    let cell = cell_number(states.ceilings, zeroed(values, table.resets(e)));
     (target * states.cells as u32 + cell) as usize
 }

@@ -1,7 +1,6 @@
 -- `states::state_at` meets its contract.
 -- Assumes nothing.
 use Prim.Native.Nat.{◌≤◌}
-use native.Mathlib.Nat.{div-le_self}
 use native.Mathlib.Omega.{arith}
 use Rattle.corners.specs.Cells.{most_cells}
 use Rattle.states.specs.declared.States.{States}
@@ -19,9 +18,6 @@ overflow_cast-cells c = omega (arith, between c.args.states c.requires.0)
 
 pub nonzero_div-result : goal.nonzero_div-result
 nonzero_div-result c = omega (arith, between c.args.states c.requires.0)
-
-pub overflow_cast-result-2 : goal.overflow_cast-result-2
-overflow_cast-result-2 c = let args = c.args in omega (arith, div-le_self args.node args.states.cells, c.requires.1)
 
 pub nonzero_rem-node : goal.nonzero_rem-node
 nonzero_rem-node c = omega (arith, between c.args.states c.requires.0)

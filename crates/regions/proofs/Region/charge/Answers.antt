@@ -18,8 +18,8 @@ corners c =
 pub overflow_add-top : goal.overflow_add-top
 overflow_add-top c = omega (arith, corners c)
 
-pub charged-prices-requires : goal.charged-prices-requires
-charged-prices-requires c =
+pub charged-self-requires : goal.charged-self-requires
+charged-self-requires c =
     let s = c.args.self in
     let h = holds s c.requires.0 in
     (omega (arith, corners c), λ i. rw (price-at s (view s) h i) (c.requires.1 i))
@@ -28,4 +28,4 @@ pub returns : goal.returns
 returns c =
     let s = c.args.self in
     let h = holds s c.requires.0 in
-    rw (c.charged-prices.ensures, (corners c.before).0) (charged-is s (view s) h c.args.price)
+    rw (c.charged-self.ensures, (corners c.before).0) (charged-is s (view s) h c.args.price)

@@ -4,6 +4,7 @@ use Prim.Native.Nat.{ℕ, ◌+◌, ◌≤◌}
 use mathlib.Core.Path.{ap, ◌∙◌}
 use native.Mathlib.Omega.{arith}
 use lib.ListN.{get_or}
+use Rattle.corners.specs.Tables.{first_at}
 use Rattle.regions.specs.Held.{view}
 use Rattle.regions.specs.Laws.Fields.{holds, timers-is, group-few}
 use Rattle.regions.proofs.Numbers.{number_is}
@@ -38,14 +39,11 @@ overflow_add-place-2 c = omega (arith, few (goal.at.overflow_add-place-2 c).Star
 pub overflow_add-place-3 : goal.overflow_add-place-3
 overflow_add-place-3 c = omega (arith, few (goal.at.overflow_add-place-3 c).Start)
 
-pub overflow_cast-place : goal.overflow_cast-place
-overflow_cast-place c = omega (arith, few (goal.at.overflow_cast-place c).Start)
-
 pub first_corner-requires : goal.first_corner-requires
 first_corner-requires c = omega (arith, few (goal.at.first_corner-requires c).Start)
 
 pub returns : goal.returns
 returns c =
     let s = c.args.self in
-    ap (λ (k : ℕ). k + c.args.index) c.first_corner.ensures
+    ap (λ (k : ℕ). k + c.args.index) (c.from-2.ensures ∙ c.first_corner.ensures ∙ ap first_at c.from.ensures)
     ∙ number_is s (view s) (holds s c.requires.0) c.args.index c.requires.1

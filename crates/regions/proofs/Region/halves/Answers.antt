@@ -26,15 +26,15 @@ all : (s : Region) → Valid s → (a b c : ℕ)
     → (a ∷ b ∷ c ∷ []) ≡ (half (view s) 0 ∷ half (view s) 1 ∷ half (view s) 2 ∷ [])
 all s v a b c x y z = rw (same s v 0 a x, same s v 1 b y, same s v 2 c z)
 
-pub half-a-requires : goal.half-a-requires
-half-a-requires c = low c.args.self c.requires.0 c.requires.1 0
+pub half-requires : goal.half-requires
+half-requires c = low c.args.self c.requires.0 c.requires.1 0
 
-pub half-b-requires : goal.half-b-requires
-half-b-requires c = low c.args.self c.requires.0 c.requires.1 1
+pub half-requires-2 : goal.half-requires-2
+half-requires-2 c = low c.args.self c.requires.0 c.requires.1 1
 
-pub half-c-requires : goal.half-c-requires
-half-c-requires c = low c.args.self c.requires.0 c.requires.1 2
+pub half-requires-3 : goal.half-requires-3
+half-requires-3 c = low c.args.self c.requires.0 c.requires.1 2
 
 pub returns : goal.returns
 returns c =
-    all c.args.self c.requires.0 c.half-a.result c.half-b.result c.half-c.result c.half-a.ensures c.half-b.ensures c.half-c.ensures
+    all c.args.self c.requires.0 c.half.result c.half-2.result c.half-3.result c.half.ensures c.half-2.ensures c.half-3.ensures

@@ -20,23 +20,23 @@ room c i =
     let s = c.args.self in
     rw (price-at s (view s) (holds s c.requires.0) i) (c.requires.1 i)
 
-pub overflow_add-top : goal.overflow_add-top
-overflow_add-top c = omega (arith, place c)
+pub overflow_add-self : goal.overflow_add-self
+overflow_add-self c = omega (arith, place c)
 
-pub raised-group-requires : goal.raised-group-requires
-raised-group-requires c =
+pub raised-self-requires : goal.raised-self-requires
+raised-self-requires c =
     let s = c.args.self in
     let h = holds s c.requires.0 in
-    (c.requires.0.few, λ i. omega (arith, group-few s (view s) h i))
+    (rw c.from.ensures c.requires.0.few, λ i. omega (arith, group-few s (view s) h i))
 
-pub overflow_add-self : goal.overflow_add-self
-overflow_add-self c = record { fits = room (goal.at.overflow_add-self c).Start _ }
+pub overflow_add-self-2 : goal.overflow_add-self-2
+overflow_add-self-2 c = record { fits = room (goal.at.overflow_add-self-2 c).Start _ }
 
-pub bounds-self-top : goal.bounds-self-top
-bounds-self-top c = omega (arith, place (goal.at.bounds-self-top c).Start)
+pub bounds-self-from : goal.bounds-self-from
+bounds-self-from c = omega (arith, place (goal.at.bounds-self-from c).Start)
 
 pub returns : goal.returns
 returns c =
     let s = c.args.self in
     let h = holds s c.requires.0 in
-    rw c.raised-group.ensures (left_is s (view s) h c.args.rate c.requires.2)
+    rw (c.raised-self.ensures, c.from.ensures, c.from-2.ensures) (left_is s (view s) h c.args.rate c.requires.2)

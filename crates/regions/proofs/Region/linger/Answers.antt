@@ -22,19 +22,19 @@ room c i =
     rw (price-at s (view s) (holds s c.requires.0) i) (c.requires.1 i)
 
 pub bounds-self-top : goal.bounds-self-top
-bounds-self-top c = top_in (goal.at.bounds-self-top c).Start
+bounds-self-top c = omega (arith, top_in (goal.at.bounds-self-top c).Start)
 
-pub overflow_add-waited : goal.overflow_add-waited
-overflow_add-waited c = record { fits = room (goal.at.overflow_add-waited c).Start _ }
+pub overflow_add-self : goal.overflow_add-self
+overflow_add-self c = record { fits = room (goal.at.overflow_add-self c).Start _ }
 
 pub bounds-self-top-then-no_zero : goal.bounds-self-top-then-no_zero
-bounds-self-top-then-no_zero c = top_in (goal.at.bounds-self-top-then-no_zero c).Start
+bounds-self-top-then-no_zero c = omega (arith, top_in (goal.at.bounds-self-top-then-no_zero c).Start)
 
 pub returns-then-no_zero : goal.returns-then-no_zero
 returns-then-no_zero c =
     let s = c.args.self in
     let h = holds s c.requires.0 in
-    rw c.least.ensures (lingered-is s (view s) h c.args.rate (sym c.no_zero.ensures ∙ c.if-no_zero.true))
+    rw (c.min.ensures, c.from-top.ensures) (lingered-is s (view s) h c.args.rate (sym c.no_zero.ensures ∙ c.if-no_zero.true))
 
 pub returns-else-no_zero : goal.returns-else-no_zero
 returns-else-no_zero c =

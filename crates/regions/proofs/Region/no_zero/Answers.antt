@@ -5,4 +5,4 @@ use Rattle.regions.proofs.Region.no_zero.Goals as goal
 
 pub returns : goal.returns
 unfolding view
-returns c = c.none_zero.ensures
+returns c = rw c.from.ensures at c.none_zero.ensures

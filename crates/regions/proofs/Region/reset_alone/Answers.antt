@@ -19,17 +19,17 @@ gone c =
     let x = c.args.timer in
     (alone-pos s (view s) h x c.requires.2, group-top s (view s) h x, top-few s (view s) h)
 
-pub overflow_sub-top : goal.overflow_sub-top
-overflow_sub-top c = omega (arith, gone (goal.at.overflow_sub-top c).Start)
-
-pub merged-prices-requires : goal.merged-prices-requires
-merged-prices-requires c = omega (arith, gone (goal.at.merged-prices-requires c).Start)
-
 pub overflow_sub-self : goal.overflow_sub-self
 overflow_sub-self c = omega (arith, gone (goal.at.overflow_sub-self c).Start)
+
+pub merged-self-requires : goal.merged-self-requires
+merged-self-requires c = omega (arith, gone (goal.at.merged-self-requires c).Start)
+
+pub overflow_sub-self-2 : goal.overflow_sub-self-2
+overflow_sub-self-2 c = omega (arith, gone (goal.at.overflow_sub-self-2 c).Start)
 
 pub returns : goal.returns
 returns c =
     let s = c.args.self in
     let h = holds s c.requires.0 in
-    rw (c.all_lowered-group.ensures, c.merged-prices.ensures) (reset-alone-is s (view s) h c.args.timer c.requires.2)
+    rw (c.all_lowered-self.ensures, c.merged-self.ensures, c.from.ensures) (reset-alone-is s (view s) h c.args.timer c.requires.2)

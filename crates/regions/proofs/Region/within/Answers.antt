@@ -19,12 +19,12 @@ many c =
     omega (arith, c.requires.few)
 
 -- The loop ends at the last of them.
-all-within : (c : At-loop-timer) → c.args.self.timers ≤ c.loop-timer.timer
+all-within : (c : At-loop-timer) → c.from-n.result ≤ c.loop-timer.timer
     → true ≡ within (take c.args.self.timers c.args.ceilings) (view c.args.self)
 all-within c past =
     let s = c.args.self in
     let cs = c.args.ceilings in
-    sym (done s.timers cs s.whole s.group (many c.before.before.before.before) c.loop-timer.timer (omega arith)) ∙ c.loop-timer.invariant.1 ∙ all_left s c.requires cs
+    sym (done s.timers cs s.whole s.group (many c.before.before) c.loop-timer.timer (omega arith)) ∙ c.loop-timer.invariant.1 ∙ all_left s c.requires cs
 
 pub returns-then-n-timer : goal.returns-then-n-timer
 returns-then-n-timer c = all-within (goal.at.returns-then-n-timer c).At-loop-timer c.if-n-timer.true

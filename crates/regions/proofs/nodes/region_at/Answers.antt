@@ -13,10 +13,10 @@ sized c = search rules
 pub overflow_sub-result : goal.overflow_sub-result
 overflow_sub-result c =
     index-few c.args.timers c.args.ceilings (sized (goal.at.overflow_sub-result c).Start) c.requires.0 c.requires.1 c.args.number
-    c.node_at-node.result c.node_at-node.ensures
+    c.node_at-mode.result c.node_at-mode.ensures
 
 pub returns : goal.returns
 returns c =
     rw (c.index_to.ensures, c.index_to-2.ensures, c.index_to-3.ensures)
     (node-region-is c.args.timers c.args.ceilings (sized (goal.at.returns c).Start) c.requires.0 c.requires.1 c.args.number
-    c.node_at-node.result c.node_at-node.ensures)
+    c.node_at-mode.result c.node_at-mode.ensures)

@@ -82,8 +82,8 @@ abbrev pub source_of : StateHeld → CostHeld → Source
 source_of x c = record { at = x; charge = c.charge; pairs = c.steps + 1 }
 
 -- The node is next, and its state is known.
-module _ {t rs : List ℕ} {s : States} (set : Setting t rs s) {goal node : ℕ} {c : CostHeld} {ws : List ℕ} (k : VisitReady (rooted_of t goal) node c ws) where
-  pub there : node < s.count
+module _ {t rs : List ℕ} {s : States} (set : Setting t rs s) (goal : ℕ) {node : ℕ} {c : CostHeld} {ws : List ℕ} (k : VisitReady (rooted_of t goal) node c ws) where
+  there : node < s.count
   there = omega (arith, k.there, size set goal)
 
   pub steps-few : c.steps < 65536

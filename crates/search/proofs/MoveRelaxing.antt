@@ -13,11 +13,13 @@ use Rattle.semantics.proofs.Answers.Moving.{moved_to, MoveEdge, edge-move, move-
 use Rattle.table.specs.Meaning.{named_timers}
 use Rattle.table.specs.Held.{automaton_of, fields_of, move_fields_at}
 use Rattle.regions.specs.Held.{view}
-use Rattle.rules.specs.Rules.{none}
+use Rattle.std.specs.Prelude.{Option, Some}
+use Rattle.rules.specs.Rules.{none, as_move}
+use Rattle.rules.specs.Laws.Moves.{some-move}
 use Rattle.queue.specs.Queue.{RelaxReady, RelaxDone}
 use Rattle.space.specs.declared.Space.{Space}
 use Rattle.space.specs.Space.{graph_of, Setting, place_at, IsCorner}
-use Rattle.space.specs.Images.{NodeImage}
+use Rattle.space.specs.Images.{NodeImage, Images}
 use Rattle.space.specs.Moves.{Open, OpenMove, OpenFrom}
 use Rattle.space.proofs.Settings.{halves_of, corner-number, corner-leaves}
 use Rattle.space.proofs.Imaging.{move-image, image-number}
@@ -30,6 +32,25 @@ use Rattle.search.proofs.Offers.{edge-inside, edge-sum, edge-ready, edge-relaxes
 -- The edges of the moves before e were relaxed.
 abbrev pub MovesTo : List ℕ → Space → Source → ℕ → List ℕ → List ℕ → Type 0
 MovesTo t s x e = EdgesDone (λ y. y.label < e) t s x
+
+-- What holds at each turn: the edges of the moves before the next one were relaxed, and what is kept of images is right.
+pub record Turn (t rs : List ℕ) (s : Space) (x : Source) (hs : List ℕ) (next : Option ℕ) (found ws ws' : List ℕ) : Type 0 where
+  pub byte : ℕ
+  pub named : next ≡ as_move byte
+  pub move : OpenMove t rs hs x.at.mode byte
+  pub images : Images (NodeImage s x.at) found
+  pub moves : MovesTo t s x byte ws ws'
+
+-- Move e is next.
+pub record TurnAt (t rs : List ℕ) (s : Space) (x : Source) (hs : List ℕ) (e : ℕ) (ws ws' : List ℕ) : Type 0 where
+  pub some : e < none
+  pub move : OpenMove t rs hs x.at.mode e
+  pub moves : MovesTo t s x e ws ws'
+
+pub turn-at :
+    {t rs : List ℕ} {s : Space} {x : Source} {hs : List ℕ} {next : Option ℕ} {found ws ws' : List ℕ} → Turn t rs s x hs next found ws ws'
+    → {e : ℕ} → next ≡ Some e → TurnAt t rs s x hs e ws ws'
+turn-at turn q = let o = some-move turn.named q in record { some = o.1; move = rw o.0 at turn.move; moves = rw o.0 at turn.moves }
 
 module _ {t rs : List ℕ} {s : Space} (set : Setting t rs s) (x : Source) (k : IsCorner t x.at) (hs : List ℕ)
     (stand : hs ≡ halves_of (view x.at.region)) where

@@ -28,8 +28,8 @@ abbrev pub source_of : NodeRegion → CostHeld → Source
 source_of z c = record { at = z; charge = c.charge; steps = c.steps + 1 }
 
 -- The node is next, and its region is known.
-module _ {t rs : List ℕ} {s : Space} (set : Setting t rs s) {goal node : ℕ} {c : CostHeld} {ws : List ℕ} (k : VisitReady (rooted_of t goal) node c ws) where
-  pub there : node < s.nodes
+module _ {t rs : List ℕ} {s : Space} (set : Setting t rs s) (goal : ℕ) {node : ℕ} {c : CostHeld} {ws : List ℕ} (k : VisitReady (rooted_of t goal) node c ws) where
+  there : node < s.nodes
   there = omega (arith, k.there, size set goal)
 
   pub steps-few : c.steps < 65536

@@ -1,6 +1,6 @@
 -- What a search answers, case by case, and what it changes then.
 -- Assumes nothing.
-use Rattle.std.specs.Prelude.{◌≡◌, refl, Bool, true, false, cond, List, ◌++◌, ℕ, ◌*◌, ◌≤◌, ◌<◌, leb, length, drop, replicate}
+use Rattle.std.specs.Prelude.{◌≡◌, refl, Some, None, Bool, true, false, cond, List, ◌++◌, ℕ, ◌*◌, ◌≤◌, ◌<◌, leb, length, drop, replicate}
 use Rattle.std.proofs.Common.{sym, ap, ◌∙◌, arith, leb-true, le-leb}
 use Rattle.std.proofs.lemmas.Bool.{lt-leb}
 use Rattle.semantics.specs.Distinct.{distinct}
@@ -8,7 +8,6 @@ use Rattle.semantics.specs.Automaton.{Automaton}
 use Rattle.semantics.specs.NodeCount.{node_count}
 use Rattle.semantics.specs.Graph.Near.{near_words}
 use Rattle.semantics.specs.Graph.CornerGraph.{start_node, corner_graph}
-use Rattle.regions.specs.declared.nodes.Nodes.TheVariants.{Count, TooMany}
 use Rattle.regions.specs.Nodes.{most_nodes, bounded}
 use Rattle.search.specs.Outcome.{Searched}
 use Rattle.search.specs.Outcome.{Nodes, Refused}
@@ -16,17 +15,17 @@ use Rattle.search.specs.Outcome.{nodes_of, answered, unless_refused, searched, c
 
 -- E, or 8: from the count of the nodes.
 module _ (a : Automaton) where
-  pub nodes-many : bounded (node_count a) ≡ TooMany → Refused 8 ≡ nodes_of a
+  pub nodes-many : bounded (node_count a) ≡ None → Refused 8 ≡ nodes_of a
   nodes-many = go (leb (node_count a) most_nodes)
     where
-      go : (b : Bool) → cond b (Count (node_count a)) TooMany ≡ TooMany → Refused 8 ≡ cond b (Nodes (node_count a)) (Refused 8)
+      go : (b : Bool) → cond b (Some (node_count a)) None ≡ None → Refused 8 ≡ cond b (Nodes (node_count a)) (Refused 8)
       go true h = distinct cc
       go false h = refl
 
-  pub nodes-few : (n : ℕ) → bounded (node_count a) ≡ Count n → Nodes n ≡ nodes_of a
+  pub nodes-few : (n : ℕ) → bounded (node_count a) ≡ Some n → Nodes n ≡ nodes_of a
   nodes-few n = go (leb (node_count a) most_nodes)
     where
-      go : (b : Bool) → cond b (Count (node_count a)) TooMany ≡ Count n → Nodes n ≡ cond b (Nodes (node_count a)) (Refused 8)
+      go : (b : Bool) → cond b (Some (node_count a)) None ≡ Some n → Nodes n ≡ cond b (Nodes (node_count a)) (Refused 8)
       go true h = let e : n ≡ node_count a = cc in ap Nodes e
       go false h = distinct cc
 

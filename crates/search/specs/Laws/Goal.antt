@@ -1,7 +1,7 @@
 -- What the words of a search say of the goal: the least cost of its nodes is that of the route, and the entries are the least costs from the start
 -- as far as they are as near as that.
 -- Assumes nothing.
-use Rattle.std.specs.Prelude.{◌≡◌, refl, Bool, true, false, cond, ◌≢◌, ◌⊎◌, ℕ, zero, suc, ◌+◌, ◌*◌, ◌/◌, ◌≤◌, ◌<◌, eqb, length, get_or, drop, replicate}
+use Rattle.std.specs.Prelude.{Option, Some, None, ◌≡◌, refl, Bool, true, false, cond, ◌≢◌, ◌⊎◌, ℕ, zero, suc, ◌+◌, ◌*◌, ◌/◌, ◌≤◌, ◌<◌, eqb, length, get_or, drop, replicate}
 use Rattle.std.proofs.Common.{sym, ◌∙◌, inl, inr, zero-add, arith, eqb-true, length-append, length-drop, drop_at}
 use Rattle.std.proofs.Math.Path.{ap}
 use mathlib.Core.List.{List, ◌++◌}
@@ -37,24 +37,6 @@ use Rattle.search.specs.Outcome.{Nodes, Refused}
 use Rattle.search.specs.Outcome.{answered, searched, cleared}
 use Rattle.search.specs.Laws.Answers.{answer-nodes, answer-fits, searched-refused, searched-nodes, cleared-nodes}
 
--- What is unreached has infinity as its charge.
-entry-none : (r : CostHeld) → cost_entry r ≡ unreached → r.charge ≡ infinity
-entry-none r = go (eqb r.charge infinity) refl
-  where
-    go : (b : Bool) → eqb r.charge infinity ≡ b → cond b unreached (reached (cost r.charge r.steps)) ≡ unreached → r.charge ≡ infinity
-    go true e q = eqb-true r.charge infinity e
-    go false e q = distinct cc
-
--- What is reached has the struct's charge and steps.
-entry-some : (r : CostHeld) (c : Cost) → cost_entry r ≡ reached c → (r.charge ≢ infinity) × (r.charge ≡ c.charge) × (r.steps ≡ c.steps)
-entry-some r c = go (eqb r.charge infinity) refl
-  where
-    go :
-        (b : Bool) → eqb r.charge infinity ≡ b → cond b unreached (reached (cost r.charge r.steps)) ≡ reached c
-        → (r.charge ≢ infinity) × (r.charge ≡ c.charge) × (r.steps ≡ c.steps)
-    go true e q = distinct cc
-    go false e q = (eqb-false r.charge infinity e, cc, cc)
-
 -- The nodes of the goal are the targets.
 module _ (t : List ℕ) (ok : IsTable t) (goal nodes modes : ℕ) (counted : nodes ≡ node_count (automaton_of t))
     (modes-are : modes ≡ length (automaton_of t).modes) where
@@ -84,27 +66,33 @@ module _ (t : List ℕ) (ok : IsTable t) (goal nodes modes : ℕ) (counted : nod
       (inside, (graph-goal a goal v).1 ((graph_block a goal goal there v inside).1 (from, to)))
 
   -- The least cost of the goal's nodes is the least entry of the targets.
-  pub best-target : (ws : List ℕ) (r : CostHeld) → IsBest nodes goal modes ws r → BestTarget (graph_of t goal) (table ws) (cost_entry r)
-  best-target ws r best = record {
-    none = λ q v h x. table-unreached ws v ((best.unreached (entry-none r q)).1 v (target-in v h x));
+  pub best-target : (ws : List ℕ) (r : Option CostHeld) → IsBest nodes goal modes ws r → BestTarget (graph_of t goal) (table ws) (cost_entry r)
+  best-target ws None best = record {
+    none = λ q v h x. table-unreached ws v (best v (target-in v h x));
+    some = λ c q. distinct cc;
+    least = λ c q. distinct cc;
+  }
+  best-target ws (Some r) best = record {
+    none = λ q. distinct cc;
     some = λ c q.
-        let k = entry-some r c q in
-        let o = best.attained k.0 in
+        let same : cost r.charge r.steps ≡ c = cc in
+        let o = best.attained in
         let at = in-target o.0 o.1 in (
           o.0,
           at.0,
           at.1,
-          table-holds ws o.0 c (record { known = λ z. k.0 (sym o.2 ∙ z); charge = o.2 ∙ k.1; steps = o.3 ∙ k.2 }),
+          rw same at (table-holds ws o.0 (cost r.charge r.steps) (record { known = λ z. best.known (sym o.2 ∙ z); charge = o.2; steps = o.3 })),
         );
-    least = λ c q v a h x e. less c a v (entry-some r c q).1 (entry-some r c q).2 (reached-words ws v a e).charge (reached-words ws v a e).steps
-        (best.least v (target-in v h x));
+    least = λ c q a v h x e.
+        let same : cost r.charge r.steps ≡ c = cc in
+        rw same at (less a v (reached-words ws v a e).charge (reached-words ws v a e).steps (best.least v (target-in v h x)));
   }
     where
       less :
-          (c a : Cost) (v : ℕ) → r.charge ≡ c.charge → r.steps ≡ c.steps → charge_at ws v ≡ a.charge → steps_at ws v ≡ a.steps
-          → (r.charge < charge_at ws v) ⊎ ((r.charge ≡ charge_at ws v) × (r.steps ≤ steps_at ws v)) → c ≼ a
-      less c a v p q x y (inl k) = inl (omega arith)
-      less c a v p q x y (inr k) = inr (omega arith)
+          (a : Cost) (v : ℕ) → charge_at ws v ≡ a.charge → steps_at ws v ≡ a.steps
+          → (r.charge < charge_at ws v) ⊎ ((r.charge ≡ charge_at ws v) × (r.steps ≤ steps_at ws v)) → cost r.charge r.steps ≼ a
+      less a v x y (inl k) = inl (omega arith)
+      less a v x y (inr k) = inr (omega arith)
 
 -- The words of entries are two for each node.
 entry_length : (x : Entry) → length (entry_words x) ≡ 2

@@ -21,26 +21,26 @@ use Rattle.search.proofs.MoveRelaxing.{moves-none, moves-all, move-node, move-in
 use Rattle.search.proofs.edges.relax_moves.Goals.{After-first, In-loop-e, After-resets, After-image, After-next_move-e-in-loop-e}
 use Rattle.search.proofs.edges.relax_moves.Goals as goal
 
-begins : (c : After-first) → FirstFrom (automaton_of c.args.table.now.bytes) c.args.from.at.mode 0 c.first.result
+begins : (c : After-first) → FirstFrom (automaton_of c.args.corners.now.table.now.bytes) c.args.from.at.mode 0 c.first.result
 begins c =
     first-begins c.requires.0.setting.is-rules c.requires.0.corner.place.in-modes c.first.ensures
 
 -- The image of the move in hand, and the node to which it leads.
-ready : (c : After-resets) → ImageReady c.args.space c.args.from.at c.resets.result
+ready : (c : After-resets) → ImageReady c.args.corners.now.space c.args.from.at c.resets.result
 ready c =
     move-image c.requires.0.setting c.requires.0.corner c.loop-e.invariant.0 c.loop-e-test.true c.resets.ensures
 
 node :
     (c : After-image)
-    → c.image.result + c.target-target.result * c.args.space.block
-    ≡ (move_edge (automaton_of c.args.table.now.bytes) (place_at c.args.from.at) c.args.from.at.index c.loop-e.e).to
+    → c.image.result + c.target-target.result * c.args.corners.now.space.block
+    ≡ (move_edge (automaton_of c.args.corners.now.table.now.bytes) (place_at c.args.from.at) c.args.from.at.index c.loop-e.e).to
 node c =
     move-node c.requires.0.setting c.args.from c.requires.0.corner _ c.halves-halves.ensures _ c.loop-e-test.true c.loop-e.invariant.0
     _ c.resets.ensures _ _ c.image.ensures.is c.target-target.ensures
 
 node-few :
     (c : After-image)
-    → (move_edge (automaton_of c.args.table.now.bytes) (place_at c.args.from.at) c.args.from.at.index c.loop-e.e).to < 65535
+    → (move_edge (automaton_of c.args.corners.now.table.now.bytes) (place_at c.args.from.at) c.args.from.at.index c.loop-e.e).to < 65535
 node-few c =
     let z = c.requires.0 in
     let inside =
@@ -50,7 +50,7 @@ node-few c =
 -- The next move.
 next :
     (c : After-next_move-e-in-loop-e)
-    → OpenFrom c.args.table.now.bytes c.args.rules.now c.halves-halves.result c.args.from.at.mode
+    → OpenFrom c.args.corners.now.table.now.bytes c.args.corners.now.rules.now c.halves-halves.result c.args.from.at.mode
     (c.loop-e.e + 1) c.next_move-e-in-loop-e.result
 next c =
     let some = c.loop-e-test.true in
@@ -88,7 +88,7 @@ pub overflow_cast-target : goal.overflow_cast-target
 overflow_cast-target c =
     let z = c.requires.0.setting.is-table in
     let there = c.loop-e.invariant.0.there c.loop-e-test.true in
-    omega (arith, c.target-target.ensures, target_below c.args.table.now.bytes z c.loop-e.e there, few-modes _ z)
+    omega (arith, c.target-target.ensures, target_below c.args.corners.now.table.now.bytes z c.loop-e.e there, few-modes _ z)
 
 pub resets-requires : goal.resets-requires
 resets-requires c = (c.requires.0.setting.is-table, c.loop-e.invariant.0.there c.loop-e-test.true)
@@ -111,10 +111,10 @@ price-requires c = (c.requires.0.setting.is-table, c.loop-e.invariant.0.there c.
 pub overflow_cast-charge : goal.overflow_cast-charge
 overflow_cast-charge c =
     let there = c.loop-e.invariant.0.there c.loop-e-test.true in
-    omega (arith, c.price.ensures, price-within c.args.table.now.bytes c.requires.0.setting.is-table c.loop-e.e there)
+    omega (arith, c.price.ensures, price-within c.args.corners.now.table.now.bytes c.requires.0.setting.is-table c.loop-e.e there)
 
 -- The node in hand, after the moves before e.
-held : (c : In-loop-e) → Holding c.args.table.now.bytes c.args.space c.args.from c.loop-e.words c.requires.0.goal
+held : (c : In-loop-e) → Holding c.args.corners.now.table.now.bytes c.args.corners.now.space c.args.from c.loop-e.words c.requires.0.goal
 held c =
     hold-again c.requires.0.holding (c.loop-e.invariant.2 c.requires.0.goal c.requires.0.holding)
 

@@ -10,7 +10,7 @@ use Rattle.search.proofs.Waits.{Looked, waits-ready, waits-unmet, delays-ready, 
 use Rattle.search.proofs.edges.relax_waits.Goals as goal
 
 -- What was found before linger,
-looked : (c : goal.After-relax_linger-arg-1) → Looked c.args.table.now.bytes c.args.from.at c.delay-delayed.result c.top.result
+looked : (c : goal.After-relax_linger-arg-1) → Looked c.args.corners.now.table.now.bytes c.args.from.at c.delay-delayed.result c.top.result
     c.top-2.result c.rate-rate.result
 looked c = record {
   is = c.delay-delayed.ensures;
@@ -36,7 +36,7 @@ halves-requires c =
 
 pub all_inside-requires : goal.all_inside-requires
 all_inside-requires c =
-    let few = place-mode c.args.table.now.bytes c.requires.0.setting.is-table (place_at c.args.from.at) c.requires.0.corner.place in
+    let few = place-mode c.args.corners.now.table.now.bytes c.requires.0.setting.is-table (place_at c.args.from.at) c.requires.0.corner.place in
     (c.requires.0.setting.is-rules.size, omega (arith, few))
 
 pub returns-then-not-all_inside : goal.returns-then-not-all_inside

@@ -2,16 +2,13 @@
 -- Assumes nothing.
 use mathlib.Core.Path.{◌≡◌}
 use mathlib.Core.List.{List}
-use Prim.Native.Nat.{ℕ, ◌-◌, ◌<◌}
-use Rattle.std.specs.Prelude.{Option, Some, None}
+use Prim.Native.Nat.{ℕ, ◌<◌}
+use Rattle.std.specs.Prelude.{Some}
 use Rattle.rules.specs.Rules.{none, as_move}
+use Rattle.rules.specs.Laws.Moves.{left}
 use Rattle.space.specs.Moves.{NextFrom}
 use Rattle.space.proofs.OpenMoves.{Passing}
 use Rattle.space.proofs.moves.next_move.Given as goal
-
-abbrev left : Option ℕ → ℕ
-left None = 0
-left (Some e) = none - e
 
 abbrev pub invariant-loop-next : goal.invariant-loop-next
 invariant-loop-next l = record {

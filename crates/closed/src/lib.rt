@@ -1,13 +1,13 @@
 // Whether a table has no condition < or >.
 #![tactic(auto)]
 
-ghost use Rattle.std.specs.Prelude.{◌≡◌, ◌∷◌, [], ℕ, ◌+◌, ◌*◌, ◌<◌, ◌≤◌, length, take, drop};
+ghost use Rattle.std.specs.Prelude.{◌≡◌, ◌∷◌, [], ◌≤◌, take};
 ghost use Rattle.semantics.specs.Closed.{all_closed, closed_table};
 ghost use Rattle.table.specs.Meaning.{conditions_from};
-ghost use Rattle.table.specs.Held.{automaton_of, IsTable};
+ghost use Rattle.table.specs.Held.{automaton_of};
 ghost use Rattle.closed.specs.Closed.{rows_closed};
 
-use table::{GUARD, INVARIANT, MODE_RECORDS, MODE_STRIDE, MOVE_RECORDS, MOVE_STRIDE, SIZE, Table};
+use table::{GUARD, INVARIANT, MODE_RECORDS, MODE_STRIDE, MOVE_RECORDS, MOVE_STRIDE, Table};
 
 // The condition bytes of a record.
 const ROW: usize = 6;
@@ -16,40 +16,24 @@ const ROW: usize = 6;
 pub fn is_closed(table: &Table) -> bool
     ensures { result ≡ closed_table (automaton_of table.now.bytes) }
 {
-    let modes = table.modes();
-    if !rows_closed(&table.bytes, MODE_RECORDS + INVARIANT, MODE_STRIDE, modes) {
-        return false;
-    }
-    let moves = table.moves();
-    rows_closed(&table.bytes, MOVE_RECORDS + GUARD, MOVE_STRIDE, moves)
+    let modes = &table.bytes[MODE_RECORDS + INVARIANT..];
+    let moves = &table.bytes[MOVE_RECORDS + GUARD..];
+    rows_closed(modes, MODE_STRIDE, table.modes()) && rows_closed(moves, MOVE_STRIDE, table.moves())
 }
 
-// Whether the conditions of so many records, of so many bytes each, are closed. Those of the first one stand from `first` on.
-fn rows_closed(table: &[u8; SIZE], first: usize, stride: usize, count: usize) -> bool
-    requires { (length table.now ≡ 904) × (stride ≤ 12) × (count ≤ 64) × ((k : ℕ) → k < count → first + stride * k + 6 ≤ 904) }
-    ensures { result ≡ rows_closed stride count (drop first table.now) }
+// Whether the conditions of so many records, of so many bytes each, are closed. The bytes begin with those of the first one.
+fn rows_closed(bytes: &[u8], stride: usize, count: usize) -> bool
+    requires { 6 ≤ stride }
+    ensures { result ≡ rows_closed stride count bytes.now }
 {
-    for i in 0..count {
-        // The unit's core multiplies in 32 bits.
-        let row = first + (stride as u32 * i as u32) as usize;
-        if !row_closed(table, row) {
-            return false;
-        }
-    }
-    true
+    bytes.chunks(stride).take(count).all(row_closed)
 }
 
-// Whether the six conditions from `first` on are.
-fn row_closed(table: &[u8; SIZE], first: usize) -> bool
-    requires { (length table.now ≡ 904) × (first + 6 ≤ 904) }
-    ensures { result ≡ all_closed (conditions_from 0 (take 6 (drop first table.now))) }
+// Whether the six conditions with which the bytes begin are.
+fn row_closed(bytes: &[u8]) -> bool
+    ensures { result ≡ all_closed (conditions_from 0 (take 6 bytes.now)) }
 {
-    for i in 0..ROW {
-        if !closed_byte(table[first + i]) {
-            return false;
-        }
-    }
-    true
+    bytes.iter().take(ROW).all(|&byte| closed_byte(byte))
 }
 
 // Whether a condition byte is, or 0 for none. Code 1 is <, and 2, 3, 4 are ≤, = and ≥. Code 0, which no table has, is read as code 1.

@@ -18,7 +18,6 @@ use Rattle.reader.specs.Format.{within, mode_record, move_record, Header, header
 use Rattle.table.specs.Meaning.{conditions_from, automaton}
 use Rattle.reader.specs.Read.{rejected, read}
 use Rattle.table.specs.Held.{pad, flat, mode_bytes, move_bytes, held}
-use Rattle.reader.specs.Reading.{Reading, Accepted, Refused}
 use Rattle.reader.specs.Step.{Took, Wrote, Reads, HeaderWrote, header_bytes, Contains, Holds}
 use Rattle.reader.specs.Theorems.Exactly.{taken}
 use Rattle.reader.specs.Theorems.Accepts.{table-exactly}
@@ -75,17 +74,6 @@ parts_held h cs ms es {t₀} {t₁} {t₂} {t₃} {t₄} hn hm he z wh wc wm we 
     we.is ∙ ap (λ (l : List ℕ). sets l 136 eb) at-3
     ∙ fill three eb [] 136 768 (omega (arith, length-append two (pad 128 mb), length-append front (pad 4 cs), cl, ml)) (omega (arith, we.long))
     ∙ ap (λ (l : List ℕ). three ++ l) (append-nil (pad 768 eb)) ∙ append_assoc two (pad 128 mb) (pad 768 eb) ∙ append_assoc front (pad 4 cs) _
-
--- The counts of a header that was written.
-pub counts-there : {t t' : List ℕ} {h : Header} → HeaderWrote t t' h → (1 ≤ get_or t' 0 0) × (get_or t' 0 0 ≤ 16) × (get_or t' 1 0 ≤ 3) × (get_or t' 2 0 ≤ 64)
-counts-there k =
-    omega (
-      arith,
-      k.range,
-      ap (λ (l : List ℕ). get_or l 0 0) k.is,
-      ap (λ (l : List ℕ). get_or l 1 0) k.is,
-      ap (λ (l : List ℕ). get_or l 2 0) k.is,
-    )
 
 -- A header that is refused refuses the table.
 pub header_refused : (bytes : List ℕ) {r : ℕ} → run header bytes ≡ refused r → run table bytes ≡ refused r
@@ -163,10 +151,3 @@ module _ {bytes t : List ℕ} {next : ℕ} (w : Took bytes next (λ f. t ≡ hel
   pub judged-table : length bytes ≤ next → hold_at_zero (conditions_from 0 (take 6 (drop 10 t))) ≡ true → Holds bytes t
   unfolding read
   judged-table l b = record { fields = w.value; accepts = rw (w.taken, drop_of_length-le bytes l, ← start_is, b); is = w.holds }
-
--- What is left of a judgement.
-pub read-accepts : {bytes t : List ℕ} → Holds bytes t → Reading (read bytes) Accepted t
-read-accepts k = rw k.accepts (record { verdict-is = refl; table_is = k.is })
-
-pub read-rejects : (bytes : List ℕ) {r : ℕ} → read bytes ≡ rejected r → Reading (read bytes) (Refused r) (replicate 904 0)
-read-rejects bytes e = rw e (record { verdict-is = refl; table_is = refl })

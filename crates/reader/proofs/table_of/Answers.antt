@@ -1,14 +1,8 @@
 -- `reader::table_of` meets its contract. Assumes nothing.
 use native.Mathlib.Omega.{arith}
 use mathlib.Core.Path.{refl}
-use Rattle.reader.specs.Theorems.Accepted.{accepted-table, accepted-read, rejected-read}
-use Rattle.reader.proofs.Giving.{passed-up}
+use Rattle.reader.specs.Theorems.Accepted.{accepted-table, accepted-read}
 use Rattle.reader.proofs.table_of.Goals as goal
-
-pub returns-in_err-read : goal.returns-in_err-read
-returns-in_err-read c =
-    passed-up c.from_residual.result _ _ _ c.from_residual.ensures.1
-    (rejected-read c.args.bytes.now c.read.new.table _ c.in_err-read.ensures _ refl)
 
 pub invariant_of-result : goal.invariant_of-result
 invariant_of-result c =

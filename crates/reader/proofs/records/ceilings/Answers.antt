@@ -3,13 +3,10 @@ use Prim.Native.Nat.{◌+◌, ◌-◌}
 use mathlib.Core.Path.{◌≡◌}
 use native.Mathlib.Omega.{arith}
 use Rattle.reader.proofs.Giving.{passed-up}
-use Rattle.reader.proofs.Writing.{wrote_none, wrote-byte}
-use Rattle.reader.proofs.Collecting.{gathered_none, gathered-more, gathered-refused, gathered-all}
+use Rattle.reader.proofs.Writing.{wrote-byte}
+use Rattle.reader.proofs.Collecting.{gathered-more, gathered-refused, gathered-all}
 use Rattle.reader.proofs.records.ceilings.Invariants.{ceiling}
 use Rattle.reader.proofs.records.ceilings.Goals as goal
-
-pub loop-at-init : goal.loop-at-init
-loop-at-init c = let a = c.args in gathered_none ceiling 0 a.timers a.bytes.now 4 (wrote_none _ _)
 
 pub returns-in_err-copied : goal.returns-in_err-copied
 returns-in_err-copied c =

@@ -3,13 +3,10 @@ use mathlib.Core.Path.{◌≡◌}
 use native.Mathlib.Omega.{arith}
 use Rattle.reader.specs.Format.{conditions}
 use Rattle.reader.proofs.Giving.{passed-up}
-use Rattle.reader.proofs.Writing.{wrote_none, wrote-byte}
-use Rattle.reader.proofs.Collecting.{gathered_none, gathered-more, gathered-refused, gathered-all}
+use Rattle.reader.proofs.Writing.{wrote-byte}
+use Rattle.reader.proofs.Collecting.{gathered-more, gathered-refused, gathered-all}
 use Rattle.reader.proofs.records.conditions.Invariants.{place}
 use Rattle.reader.proofs.records.conditions.Goals as goal
-
-pub loop-i-init : goal.loop-i-init
-loop-i-init c = let a = c.args in gathered_none (place a.map) 1 6 a.bytes.now a.from (wrote_none _ _)
 
 pub returns-in_err-condition : goal.returns-in_err-condition
 unfolding conditions

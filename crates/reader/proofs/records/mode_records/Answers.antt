@@ -4,12 +4,9 @@ use native.Mathlib.Omega.{arith}
 use Rattle.reader.specs.Format.{mode_record}
 use Rattle.table.specs.Held.{mode_bytes}
 use Rattle.reader.proofs.Giving.{passed-up}
-use Rattle.reader.proofs.Writing.{wrote_none, wrote-more}
-use Rattle.reader.proofs.Collecting.{gathered_none, gathered-more, gathered-refused, gathered-all}
+use Rattle.reader.proofs.Writing.{wrote-more}
+use Rattle.reader.proofs.Collecting.{gathered-more, gathered-refused, gathered-all}
 use Rattle.reader.proofs.records.mode_records.Goals as goal
-
-pub loop-i-init : goal.loop-i-init
-loop-i-init c = let a = c.args in gathered_none (λ i. mode_record a.timers) 0 a.modes a.bytes.now a.from (wrote_none _ _)
 
 pub returns-in_err-next : goal.returns-in_err-next
 returns-in_err-next c =

@@ -12,4 +12,4 @@ returns c =
     let row = take 6 (drop 10 c.args.table.now) in
     let each = all_from_yields_List (λ b. hold_at_zero (conditions_from 0 (b ∷ []))) _ _ c.all.result c.all.ensures.ran
     (YieldsList-from_slice row c.iter.ensures.rest) (λ x b q k. search (rules, tests)) in
-    each ∙ zero-each row
+    each ∙ zero-each 0 row

@@ -3,4 +3,4 @@ use Rattle.table.specs.Theorems.Access.{ceilings-held}
 use Rattle.table.proofs.Table.ceilings.Goals as goal
 
 pub returns : goal.returns
-returns c = let s = c in ceilings-held s.args.self.now.bytes c.args.self.now.is_table
+returns c = ceilings-held c.args.self.now.bytes c.args.self.now.is_table

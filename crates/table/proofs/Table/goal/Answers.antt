@@ -1,10 +1,6 @@
 -- `table::Table::goal` meets its contract. Assumes nothing.
-use Rattle.table.specs.Theorems.Access.{counts, goal-is}
-use native.Mathlib.Omega.{arith}
+use Rattle.table.specs.Theorems.Access.{goal-is}
 use Rattle.table.proofs.Table.goal.Goals as goal
-
-pub overflow_cast-result : goal.overflow_cast-result
-overflow_cast-result c = omega (arith, counts c.args.self.now.bytes c.args.self.now.is_table)
 
 pub returns : goal.returns
 returns c = goal-is c.args.self.now.bytes c.args.self.now.is_table

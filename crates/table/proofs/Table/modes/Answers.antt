@@ -1,10 +1,6 @@
 -- `table::Table::modes` meets its contract. Assumes nothing.
-use Rattle.table.specs.Theorems.Access.{counts, mode-count}
-use native.Mathlib.Omega.{arith}
+use Rattle.table.specs.Theorems.Access.{mode-count}
 use Rattle.table.proofs.Table.modes.Goals as goal
-
-pub overflow_cast-result : goal.overflow_cast-result
-overflow_cast-result c = omega (arith, counts c.args.self.now.bytes c.args.self.now.is_table)
 
 pub returns : goal.returns
 returns c = mode-count c.args.self.now.bytes c.args.self.now.is_table

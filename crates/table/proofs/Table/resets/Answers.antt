@@ -4,4 +4,4 @@ use Rattle.table.specs.Theorems.Access.{resets-at}
 use Rattle.table.proofs.Table.resets.Goals as goal
 
 pub returns : goal.returns
-returns c = let a = c.args in sym (resets-at a.self.now.bytes c.args.self.now.is_table a.e c.requires)
+returns c = let a = c.args in sym (resets-at a.self.now.bytes a.self.now.is_table a.e c.requires)

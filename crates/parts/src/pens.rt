@@ -1,5 +1,5 @@
 // A table's bytes as they are written.
-ghost use Rattle.std.specs.Prelude.{◌≤◌, length};
+ghost use Rattle.std.specs.Prelude.{◌≡◌, ◌≤◌, length};
 
 use reader::LONGEST;
 
@@ -8,5 +8,6 @@ use reader::LONGEST;
 pub struct Pen {
     pub bytes: [u8; LONGEST],
     pub at: usize,
+    pub ghost long: { length bytes ≡ 919 },
     pub ghost within: { at ≤ length bytes },
 }

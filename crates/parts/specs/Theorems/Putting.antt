@@ -134,6 +134,10 @@ module _ {pen pen' pen'' : Pen} {p : Part} {e : Refusal} {s : Result (Unit {0}) 
   pub byte-fault : Overlays p pen (Err e) pen' → IsErrAnd s (λ x. x ≡ e) → Puts b (p then q) pen s pen''
   byte-fault v = refused-first p q e v.fault
 
+-- The array stays as long as it is.
+pub puts-long : {most n : ℕ} {r : Result (Unit {0}) Refusal} {p : Part} {pen pen' : Pen} → Puts most p pen r pen' → length pen.bytes ≡ n → length pen'.bytes ≡ n
+puts-long {pen = pen} {pen' = pen'} v e = pen'.long ∙ sym pen.long ∙ e
+
 -- At most so many bytes are at most more.
 pub puts-wide : {a b : ℕ} {r : Result (Unit {0}) Refusal} {p : Part} {pen pen' : Pen} → Puts a p pen r pen' → a ≤ b → Puts b p pen r pen'
 puts-wide {r = Ok u} v h = record { fault = v.fault; few = omega (arith, v.few); put = v.put }

@@ -4,7 +4,7 @@
 ghost use Rattle.std.specs.Prelude.{◌≡◌, true, cond, ◌↔◌, ◌<◌, ltb};
 ghost use Rattle.rules.specs.Rules.{IsRules};
 ghost use Rattle.regions.specs.Held.{view};
-ghost use Rattle.steps.specs.Steps.{Marked, StandReady, no_step, NextStep};
+ghost use Rattle.steps.specs.Steps.{Marked, StandReady, NextStep};
 ghost use Rattle.steps.specs.Images.{corner_of, RegionReady, Goes, IsImage};
 ghost use Rattle.steps.specs.Leading.{Adds, TightReady, TightAt, LedTo, CornersReady, LeadReady, IsLed, MoveEdges, LedMoveReady, DelayEdges, LedDelayReady, TriedOne, Tried, MoveByte, OnlyByte, IsFound, StepReady, AlongReady, FromReady, FromDone, LingerReady, LingerTried};
 ghost use Rattle.table.specs.Meaning.{named_timers};
@@ -53,10 +53,7 @@ fn with(set: u32, corner: usize) -> u32
     requires { (set < 16) × (corner < 4) }
     ensures { Adds Unit set corner result }
 {
-    if marked(set, corner) {
-        return set;
-    }
-    set + (1 << corner)
+    set | 1 << corner
 }
 
 // Whether an edge of that weight is tight: by the words its end is reached along it, in so many steps.
@@ -64,10 +61,7 @@ fn tight(words: &[u32], from: usize, to: usize, weight: u32, steps: u32) -> bool
     requires { TightReady words.now from to weight }
     ensures { (result ≡ true) ↔ TightAt words.now from to weight steps }
 {
-    if words[2 * to + 1] != steps {
-        return false;
-    }
-    words[2 * to] == words[2 * from] + weight
+    words[2 * to + 1] == steps && words[2 * to] == words[2 * from] + weight
 }
 
 // The set with corner i, if corner j is marked and the edge of that weight from it to corner i of the place whose corner 0 is the node `to` is tight.
@@ -75,13 +69,10 @@ fn lead(words: &[u32], stand: Stand, set: u32, j: usize, to: usize, i: usize, we
     requires { CornersReady stand words.now × LeadReady words.now set j to i weight }
     ensures { Adds (LedTo stand words.now to j weight i) set i result }
 {
-    if !marked(stand.set, j) {
-        return set;
+    if marked(stand.set, j) && tight(words, stand.first + j, to + i, weight, stand.steps + 1) {
+        return with(set, i);
     }
-    if !tight(words, stand.first + j, to + i, weight, stand.steps + 1) {
-        return set;
-    }
-    with(set, i)
+    set
 }
 
 // The corner to which corner j goes by a map, which has two bits for each.

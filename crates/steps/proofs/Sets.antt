@@ -4,7 +4,7 @@ use mathlib.Core.Path.{◌≡◌, refl, sym, ap, ◌∙◌}
 use mathlib.Core.Bool.{Bool, true, false, cond, ◌&&◌, ◌||◌, true≢false}
 use Rattle.std.proofs.Common.{bit_or}
 use mathlib.Core.Logic.{◌↔◌, ◌⊎◌, ◌≢◌, inl, inr}
-use Prim.Native.Nat.{ℕ, zero, suc, ◌+◌, ◌*◌, ◌/◌, ◌%◌, ◌^◌, ◌≤◌, ◌<◌}
+use Prim.Native.Nat.{ℕ, zero, suc, ◌*◌, ◌/◌, ◌%◌, ◌^◌, ◌≤◌, ◌<◌}
 use native.Mathlib.Nat.{pow-le-pow_right, div-eq_of_lt, zero-div}
 use native.Mathlib.Decide.{ℕ_discrete, dec_lt}
 use native.Mathlib.Omega.{arith}
@@ -16,12 +16,9 @@ use Rattle.semantics.specs.Corners.Every.{every_from, every-at}
 use Rattle.steps.specs.Steps.{Marked}
 use Rattle.steps.specs.Leading.{Adds}
 
--- A test that fails says that what it tests does not hold, and the other way round.
+-- A test that fails says that what it tests does not hold.
 pub refused : {A : Type 0} {b : Bool} → (b ≡ true) ↔ A → b ≡ false → A → ⊥
 refused t e a = true≢false (sym (t.1 a) ∙ e)
-
-pub refutes : {A : Type 0} → (A → ⊥) → (false ≡ true) ↔ A
-refutes n = (λ e. absurd (true≢false (sym e)), λ a. absurd (n a))
 
 -- A test that is computed for each number below n.
 abbrev every_below : ℕ → (ℕ → Bool) → Bool
@@ -75,25 +72,6 @@ some-marked set h n = at _ refl _ refl _ refl (rw (ne_eqb set 0 n) at (every-bel
     at false e true f c g t = (1, eqb-true _ _ f)
     at false e false f true g t = (2, eqb-true _ _ g)
     at false e false f false g t = (3, eqb-true _ _ t)
-
--- What does not fit leaves the set as it was.
-pub adds_none : {Fits : Type 0} (set corner : ℕ) → set < 16 → (Fits → ⊥) → Adds Fits set corner set
-adds_none {Fits} set corner h n = record { sixteen = h; marks = λ i. (λ m. inl m, from i) }
-  where
-    from : (i : ℕ) → Marked set i ⊎ ((i ≡ corner) × Fits) → Marked set i
-    from i (inl m) = m
-    from i (inr o) = absurd (n o.1)
-
-pub adds-fits : {Fits : Type 0} (set corner r : ℕ) → Fits → Adds (Unit {0}) set corner r → Adds Fits set corner r
-adds-fits {Fits} set corner r fits a = record { sixteen = a.sixteen; marks = λ i. (λ m. to i ((a.marks i).0 m), λ o. (a.marks i).1 (from i o)) }
-  where
-    to : (i : ℕ) → Marked set i ⊎ ((i ≡ corner) × Unit {0}) → Marked set i ⊎ ((i ≡ corner) × Fits)
-    to i (inl m) = inl m
-    to i (inr o) = inr (o.0, fits)
-
-    from : (i : ℕ) → Marked set i ⊎ ((i ≡ corner) × Fits) → Marked set i ⊎ ((i ≡ corner) × Unit {0})
-    from i (inl m) = inl m
-    from i (inr o) = inr (o.0, tt)
 
 -- A shift in 32 bits.
 pub shifted : (corner : ℕ) → corner < 4 → 1 * 2 ^ corner % 2 ^ 32 ≡ 2 ^ corner

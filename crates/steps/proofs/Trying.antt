@@ -1,6 +1,6 @@
 -- The bytes of a walk that were tried: one after another, and all of them.
 -- Assumes nothing.
-use mathlib.Core.Path.{◌≡◌, refl, sym, ap, ◌∙◌}
+use mathlib.Core.Path.{◌≡◌, refl, sym, ap}
 use mathlib.Core.Bool.{true, false, true≢false}
 use mathlib.Core.List.{List}
 use Prim.Native.Nat.{ℕ, ◌≤◌, ◌<◌}
@@ -39,10 +39,7 @@ module _ {t : List ℕ} {s : Space} {z : Stand} {ws : List ℕ} where
         none_before = λ j m h. before j m (omega (arith, (one.leads o.0 o.1).0, ap byte_of o.1));
       }
 
-  -- One byte alone: it is before the walk's, or leads nowhere, or was tried.
-  pub one-before : {b : ℕ} → b < z.byte → Tried t s z ws (OnlyByte b z) None
-  one-before h = tried-none (λ k m. absurd (omega (arith, m.0, m.1)))
-
+  -- One byte alone leads nowhere, or was tried.
   pub one-silent : {b : ℕ} → Silent t s z ws b → Tried t s z ws (OnlyByte b z) None
   one-silent silent = tried-none (λ k m. rw m.1 silent)
 

@@ -99,10 +99,7 @@ fn led_by_move(words: &[u32], stand: Stand, map: u32, to: usize, price: u32) -> 
 fn delay_weight(top: usize, corner: usize, rate: u32) -> u32
     ensures { result ≡ cond (ltb top corner) rate 0 }
 {
-    if top < corner {
-        return rate;
-    }
-    0
+    if top < corner { rate } else { 0 }
 }
 
 // The corners to which a delay leads. The region after it says by its prices which corner comes from where.
@@ -152,10 +149,7 @@ pub fn move_from(
 fn found(byte: usize, first: usize, set: u32) -> Option<Next>
     ensures { IsFound byte first set result }
 {
-    if set == 0 {
-        return None;
-    }
-    Some(Next { byte, first, set })
+    (set != 0).then_some(Next { byte, first, set })
 }
 
 // The map of resets: where each corner of the region before them goes. The region after them says so by its prices.
@@ -177,10 +171,8 @@ fn image_of(space: Space, at: NodeRegion, resets: u8) -> u32
     requires { ImageReady space at resets }
     ensures { IsImage space at (named_timers resets) result }
 {
-    let region = at.region;
-    let ceilings = space.ceilings;
-    let moved = region.reset_all(resets);
-    let first = nodes::node_of(0, moved, 0, ceilings) as u32;
+    let moved = at.region.reset_all(resets);
+    let first = nodes::node_of(0, moved, 0, space.ceilings) as u32;
     first + 65536 * corners_after(moved)
 }
 
@@ -197,7 +189,13 @@ fn image(images: &mut [u32; 8], space: Space, at: NodeRegion, resets: u8) -> u32
 }
 
 // Tries the step of a move that is allowed. The image is that of its reset byte: the target mode's nodes come so many blocks behind those of mode 0.
-fn along_move(words: &[u32], corners: &CornerGraph, stand: Stand, image: u32, e: usize) -> Option<Next>
+fn along_move(
+    words: &[u32],
+    corners: &CornerGraph,
+    stand: Stand,
+    image: u32,
+    e: usize,
+) -> Option<Next>
     requires { AlongReady corners.now.table.now.bytes corners.now.space stand words.now image e }
     ensures { TriedOne corners.now.table.now.bytes corners.now.space stand words.now e result }
 {
@@ -245,7 +243,11 @@ fn by_delay(words: &[u32], corners: &CornerGraph, at: NodeRegion, stand: Stand) 
     }
     let to = nodes::node_of(at.mode, delayed, 0, corners.space.ceilings);
     let rate = corners.table.rate(at.mode) as u32;
-    found(DELAY, to, led_by_delay(words, stand, delayed, to, at.region.top(), rate))
+    found(
+        DELAY,
+        to,
+        led_by_delay(words, stand, delayed, to, at.region.top(), rate),
+    )
 }
 
 // Tries to linger. Only where r0 is empty, so that a delay takes a corner away, does it lead on, from corner 0 to the last.
@@ -262,10 +264,15 @@ fn by_linger(words: &[u32], table: &Table, at: NodeRegion, stand: Stand) -> Opti
         return None;
     }
     let rate = table.rate(at.mode) as u32;
-    found(LINGER, at.first, lead(words, stand, 0, 0, at.first, last, rate))
+    found(
+        LINGER,
+        at.first,
+        lead(words, stand, 0, 0, at.first, last, rate),
+    )
 }
 
-// The step of the least byte, from the walk's on, along which a tight edge leads on.
+// The step of the least byte, from the walk's on, along which a tight edge leads on. By `or_else` nothing would be known of what a closure finds that
+// has `corners`.
 pub fn next_step(words: &[u32], corners: &CornerGraph, stand: Stand) -> Option<Next>
     requires { StandReady corners.now.table.now.bytes corners.now.rules.now corners.now.space stand words.now }
     ensures { NextStep corners.now.table.now.bytes corners.now.space stand words.now result }

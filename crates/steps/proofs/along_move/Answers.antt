@@ -29,9 +29,6 @@ overflow_mul-to c = omega (arith, node-few (goal.at.overflow_mul-to c).After-tar
 pub overflow_add-to : goal.overflow_add-to
 overflow_add-to c = omega (arith, node-few (goal.at.overflow_add-to c).After-target-target)
 
-pub overflow_cast-to : goal.overflow_cast-to
-overflow_cast-to c = omega (arith, node-few (goal.at.overflow_cast-to c).After-target-target)
-
 pub led_by_move-requires : goal.led_by_move-requires
 led_by_move-requires c =
     led-move-ready c.requires.ready c.args.e c.requires.allowed c.requires.is c.target-target.ensures c.price-price.ensures

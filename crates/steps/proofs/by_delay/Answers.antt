@@ -1,16 +1,11 @@
 -- `steps::by_delay` meets its contract.
 -- Assumes nothing.
 use native.Mathlib.Omega.{arith}
-use Rattle.space.specs.Space.{place_at}
-use Rattle.space.proofs.Settings.{place-mode}
 use Rattle.steps.proofs.Standing.{stand-setting}
-use Rattle.steps.proofs.Trying.{one-before, one-silent, one_tried}
+use Rattle.steps.proofs.Trying.{one-silent, one_tried}
 use Rattle.space.proofs.Delayed.{delay-ready, delayed-ready}
 use Rattle.steps.proofs.Delaying.{halves-asked, delay-shut, led-asked, tried-delay}
 use Rattle.steps.proofs.by_delay.Goals as goal
-
-pub returns-then-stand-gt-DELAY : goal.returns-then-stand-gt-DELAY
-returns-then-stand-gt-DELAY c = one-before c.if-stand-gt-DELAY.true
 
 pub delay-delayed-requires : goal.delay-delayed-requires
 delay-delayed-requires c =
@@ -19,11 +14,6 @@ delay-delayed-requires c =
 pub halves-requires : goal.halves-requires
 halves-requires c =
     halves-asked c.requires.0 c.requires.1 c.delay-delayed.result c.delay-delayed.ensures
-
-pub all_inside-requires : goal.all_inside-requires
-all_inside-requires c =
-    let w = c.requires.0 in
-    omega (arith, place-mode c.args.corners.now.table.now.bytes w.ready.setting.is-table (place_at c.args.at) w.here.corner.place)
 
 pub returns-then-not-all_inside : goal.returns-then-not-all_inside
 returns-then-not-all_inside c =

@@ -2,13 +2,10 @@
 -- Assumes nothing.
 use native.Mathlib.Omega.{arith}
 use Rattle.steps.proofs.Standing.{corners-ready}
-use Rattle.steps.proofs.Trying.{one-before, one-silent, one_tried}
+use Rattle.steps.proofs.Trying.{one-silent, one_tried}
 use Rattle.space.proofs.Delayed.{delay-ready, delayed-valid, delayed-fewer}
 use Rattle.steps.proofs.LeadingWaits.{linger-idle, linger-ready, linger-tried}
 use Rattle.steps.proofs.by_linger.Goals as goal
-
-pub returns-then-stand-gt-LINGER : goal.returns-then-stand-gt-LINGER
-returns-then-stand-gt-LINGER c = λ s w. one-before c.if-stand-gt-LINGER.true
 
 pub delay-delayed-requires : goal.delay-delayed-requires
 delay-delayed-requires c =

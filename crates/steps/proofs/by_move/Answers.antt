@@ -6,26 +6,15 @@ use Rattle.space.specs.Space.{place_at}
 use Rattle.space.specs.Laws.Images.{images-none}
 use Rattle.space.proofs.Settings.{place-half-room}
 use Rattle.space.proofs.MovesFrom.{after-ready}
-use Rattle.space.proofs.Imaging.{move-image}
 use Rattle.rules.specs.Laws.Moves.{no-move, left-less}
-use Rattle.steps.proofs.Standing.{stand-setting}
-use Rattle.steps.proofs.Trying.{tried-none}
 use Rattle.steps.proofs.PassedMoves.{TurnAt, turn-at, turn-next, along-ready, silent-first, silent-next, move-found, moves-none}
 use Rattle.steps.proofs.by_move.Goals.{In-Some}
 use Rattle.steps.proofs.by_move.Goals as goal
-
-pub returns-then-stand-ge-DELAY : goal.returns-then-stand-ge-DELAY
-returns-then-stand-ge-DELAY c = tried-none (λ k m. absurd (omega (arith, m.0, m.1, c.if-stand-ge-DELAY.true)))
 
 pub halves-halves-requires : goal.halves-halves-requires
 halves-halves-requires c =
     let w = c.requires.0 in
     (w.here.corner.valid, place-half-room c.args.corners.now.table.now.bytes w.ready.setting.is-table (place_at c.args.at) w.here.corner.place)
-
-pub move_from-next-requires : goal.move_from-next-requires
-move_from-next-requires c =
-    let w = c.requires.0 in
-    (c.args.corners.now.table.now.bytes, (w.ready.setting.is-table, c.requires.1, w.here.corner.place.in-modes, omega (arith, c.if-stand-ge-DELAY.false)))
 
 pub loop-next-init : goal.loop-next-init
 loop-next-init c =
@@ -46,16 +35,6 @@ turn : (c : In-Some) → TurnAt c.args.corners.now.table.now.bytes c.args.corner
     c.args.words.now c.halves-halves.result c.in-Some.e
 turn c = turn-at c.loop-next.invariant c.in-Some.is
 
-pub resets-requires : goal.resets-requires
-resets-requires c = let here = turn (goal.at.resets-requires c).In-Some in here.move.there here.some
-
-pub image-by_resets-requires : goal.image-by_resets-requires
-image-by_resets-requires c =
-    let here = turn (goal.at.image-by_resets-requires c).In-Some in (
-      move-image (stand-setting c.requires.0 c.requires.1) c.requires.0.here.corner here.move here.some c.resets.ensures,
-      c.loop-next.invariant.images-are,
-    )
-
 pub along_move-step-requires : goal.along_move-step-requires
 along_move-step-requires c =
     let here = turn (goal.at.along_move-step-requires c).In-Some in
@@ -65,9 +44,6 @@ pub returns-then-is_some : goal.returns-then-is_some
 returns-then-is_some c =
     let here = turn (goal.at.returns-then-is_some c).In-Some in
     move-found here.silent here.some c.along_move-step.ensures (sym c.is_some.ensures ∙ c.if-is_some.true)
-
-pub after-requires : goal.after-requires
-after-requires c = (turn (goal.at.after-requires c).In-Some).some
 
 pub next_move-next-requires : goal.next_move-next-requires
 next_move-next-requires c =

@@ -20,8 +20,7 @@ fn found_again(timers: usize) -> usize
     let mut found: usize = 0;
     for number in 0..Region::corners(timers) {
         let at = nodes::region_at(timers, ONE_CELL, number);
-        let region = at.region;
-        if nodes::node_of(0, region, at.index, ONE_CELL) == number {
+        if nodes::node_of(0, at.region, at.index, ONE_CELL) == number {
             found += 1;
         }
     }

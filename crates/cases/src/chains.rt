@@ -1,5 +1,4 @@
 // `chain STEP STEP ..: TABLE`: the places of a chain, and what the words of a search say of each.
-ghost use Rattle.table.specs.Held.{IsTable};
 ghost use Rattle.cases.specs.Kept.{OnChain};
 
 use crate::places::Place;
@@ -10,8 +9,7 @@ use table::Table;
 
 const WORDS: usize = 6000;
 
-pub fn chain(rt: &impl Print, table: &Table, numbers: &[usize; TOKENS])
-{
+pub fn chain(rt: &impl Print, table: &Table, numbers: &[usize; TOKENS]) {
     let mut words = [0u32; WORDS];
     match searches::searched(table, &mut words) {
         Ok(_) => follow(rt, table, &words, numbers),
@@ -20,16 +18,19 @@ pub fn chain(rt: &impl Print, table: &Table, numbers: &[usize; TOKENS])
 }
 
 // The start and the places after the steps, as far as the steps are allowed.
-fn follow(rt: &impl Print, table: &Table, words: &[u32; WORDS], numbers: &[usize; TOKENS])
-{
-    let mut place = places::start(rt, table);
+fn follow(rt: &impl Print, table: &Table, words: &[u32; WORDS], numbers: &[usize; TOKENS]) {
+    let mut next = Some(places::start(rt, table));
     for i in 1..TOKENS {
+        let Some(place) = next else {
+            print::text(rt, b": not allowed\n");
+            return;
+        };
         show(rt, table, words, place, i as u32 - 1);
         let step = numbers[i];
-        if (step == 0) | !place.allowed {
+        if step == 0 {
             return;
         }
-        place = places::step(rt, table, place, step % LETTER);
+        next = places::step(rt, table, place, step % LETTER);
     }
 }
 
@@ -37,12 +38,7 @@ fn follow(rt: &impl Print, table: &Table, words: &[u32; WORDS], numbers: &[usize
 fn show(rt: &impl Print, table: &Table, words: &[u32; WORDS], place: Place, steps: u32)
     requires { OnChain table.now.bytes 0 place.mode place.region }
 {
-    let mode = place.mode;
-    let region = place.region;
-    if !place.allowed {
-        print::text(rt, b": not allowed\n");
-        return;
-    }
+    let Place { mode, region } = place;
     let node = nodes::node_of(mode, region, 0, table.ceilings());
     if stands(words, node, region, steps) {
         print::with(rt, b", stands in mode A", mode);
@@ -54,16 +50,17 @@ fn show(rt: &impl Print, table: &Table, words: &[u32; WORDS], place: Place, step
 
 // Whether the words say of some corner that it costs its price and so many steps. The corners are nodes in a row, from the node on.
 fn stands(words: &[u32; WORDS], node: usize, region: Region, steps: u32) -> bool {
-    let prices = region.prices;
-    let mut some = false;
-    for corner in 0..region.top as usize % 4 + 1 {
-        some = some | costs(words, node % 3000 + corner, prices[corner], steps);
+    let corners = region.prices.iter().take(usize::from(region.top) % 4 + 1);
+    for (corner, &price) in corners.enumerate() {
+        if costs(words, node % 3000 + corner, price, steps) {
+            return true;
+        }
     }
-    some
+    false
 }
 
 // Whether they say so of a node. Those of every node are there; past the last the first come again.
 fn costs(words: &[u32; WORDS], node: usize, price: u32, steps: u32) -> bool {
     let at = node % 3000 * 2;
-    (words[at] == price) & (words[at + 1] == steps)
+    words[at] == price && words[at + 1] == steps
 }

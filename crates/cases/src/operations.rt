@@ -8,18 +8,41 @@ use regions::Region;
 // A delay is made only from a region within this ceiling.
 const MOST_WHOLE: u8 = 15;
 
-// The region after an operation with an amount. Any other letter changes nothing.
-pub fn operated(region: Region, operation: u8, amount: u16) -> Region
+// An operation on a region.
+#[derive(Clone, Copy, Debug, PartialEq, Eq)]
+pub enum Operation {
+    Delay,
+    Linger,
+    Reset,
+    ResetAll,
+    Charge,
+}
+
+impl Operation {
+    // By its letter; any other letter is none.
+    pub fn of_letter(letter: u8) -> Option<Operation> {
+        match letter {
+            b'd' => Some(Operation::Delay),
+            b'l' => Some(Operation::Linger),
+            b'r' => Some(Operation::Reset),
+            b'a' => Some(Operation::ResetAll),
+            b'c' => Some(Operation::Charge),
+            _ => None,
+        }
+    }
+}
+
+// The region after an operation with an amount.
+pub fn operated(region: Region, operation: Operation, amount: u16) -> Region
     requires { Valid region × PriceRoom most_amount (view region) }
     ensures { Kept region result }
 {
     match operation {
-        b'd' => delayed(region, amount as u32),
-        b'l' => region.linger(amount as u32),
-        b'r' => region.reset(amount as usize % Region::MOST_TIMERS),
-        b'a' => region.reset_all((amount % 256) as u8),
-        b'c' => region.charge(amount as u32),
-        _ => region,
+        Operation::Delay => delayed(region, u32::from(amount)),
+        Operation::Linger => region.linger(u32::from(amount)),
+        Operation::Reset => region.reset(usize::from(amount) % Region::MOST_TIMERS),
+        Operation::ResetAll => region.reset_all((amount % 256) as u8),
+        Operation::Charge => region.charge(u32::from(amount)),
     }
 }
 

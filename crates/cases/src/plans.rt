@@ -55,9 +55,7 @@ fn show(rt: &impl Print, answer: Result<Option<Cost>, Refusal>, route: &[u8; ROU
 
 // The steps of a route, of which there are never more than route bytes, and the end of their line.
 pub fn listed(rt: &impl Print, route: &[u8; ROUTE], n: usize) {
-    for i in 0..n % 257 {
-        print::step(rt, route[i]);
-    }
+    print::list(rt, route, n);
     print::text(rt, b"\n");
 }
 

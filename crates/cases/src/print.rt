@@ -1,4 +1,5 @@
 // Printing to standard output.
+use std::fmt::Display;
 use table::refusals::Refusal;
 
 // A write that fails is passed over, and the next text is printed all the same.
@@ -14,8 +15,8 @@ pub fn unknown(rt: &impl Print, line: &[u8]) {
 
 // A text in which A, B, C and D stand for numbers, and H for the first in hexadecimal.
 pub fn filled(rt: &impl Print, text: &[u8], numbers: [usize; 4]) {
-    for i in 0..text.len() {
-        put(rt, text[i], numbers);
+    for &byte in text {
+        put(rt, byte, numbers);
     }
 }
 
@@ -48,23 +49,16 @@ pub fn number(refusal: Refusal) -> usize {
     usize::from(u8::from(refusal))
 }
 
-// The first n entries.
-pub fn list(rt: &impl Print, entries: &[u32], n: usize) {
-    for i in 0..n % (entries.len() + 1) {
-        entry(rt, entries[i]);
+// The first n entries, each behind a blank.
+pub fn list<T: Display>(rt: &impl Print, entries: &[T], n: usize) {
+    for entry in entries.iter().take(n) {
+        let _ = print!(rt; " {entry}");
     }
 }
 
-fn entry(rt: &impl Print, n: u32) {
-    with(rt, b" A", n as usize);
-}
-
-// A step of a route.
-pub fn step(rt: &impl Print, byte: u8) {
-    entry(rt, byte as u32);
-}
-
-// A byte of a table.
-pub fn byte(rt: &impl Print, byte: u8) {
-    with(rt, b" H", byte as usize);
+// The first n bytes of a table, each in hexadecimal behind a blank.
+pub fn bytes(rt: &impl Print, bytes: &[u8], n: usize) {
+    for byte in bytes.iter().take(n) {
+        let _ = print!(rt; " {byte:02x}");
+    }
 }

@@ -1,5 +1,4 @@
 // `read: TABLE`: the counts, the goal and E of the table that the reader takes the bytes for.
-ghost use Rattle.table.specs.Held.{IsTable};
 
 use crate::print;
 use regions::nodes;

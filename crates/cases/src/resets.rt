@@ -21,17 +21,10 @@ fn given(region: Region, numbers: &[usize; TOKENS], bytes: &[u8]) -> Region
     requires { Valid region }
     ensures { Valid result }
 {
-    let n = region.timers;
-    let top = region.top;
-    let group = region.group;
-    let whole = three(numbers, 3, n as usize);
-    let prices = prices(bytes, top);
     Region {
-        timers: n,
-        top,
-        whole,
-        group,
-        prices,
+        whole: three(numbers, 3, usize::from(region.timers)),
+        prices: prices(bytes, region.top),
+        ..region
     }
 }
 
@@ -79,12 +72,7 @@ fn price(bytes: &[u8], at: usize) -> u32
     if bytes.len() < at + 4 {
         return 0;
     }
-    joined(bytes[at], bytes[at + 1], bytes[at + 2], bytes[at + 3])
-}
-
-// Four bytes as one number, the highest first.
-fn joined(a: u8, b: u8, c: u8, d: u8) -> u32 {
-    ((a as u32 * 256 + b as u32) * 256 + c as u32) * 256 + d as u32
+    u32::from_be_bytes([bytes[at], bytes[at + 1], bytes[at + 2], bytes[at + 3]])
 }
 
 // A region with the groups, found among those of a cell. Where none has them, it is the start region.
@@ -94,10 +82,8 @@ fn grouped(timers: usize, groups: [u8; Region::MOST_TIMERS]) -> Region
 {
     for number in 0..Region::corners(timers) {
         let at = nodes::region_at(timers, ONE_CELL, number);
-        let region = at.region;
-        let group = region.group;
-        if (group[0] == groups[0]) & (group[1] == groups[1]) & (group[2] == groups[2]) {
-            return region;
+        if at.region.group == groups {
+            return at.region;
         }
     }
     Region::start(timers)

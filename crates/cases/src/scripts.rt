@@ -4,6 +4,7 @@ ghost use Rattle.regions.specs.Held.{most_timers, view, Valid, PriceRoom};
 ghost use Rattle.cases.specs.Kept.{most_amount, Kept};
 
 use crate::tokens::{LETTER, TOKENS};
+use crate::operations::Operation;
 use crate::{operations, print};
 use regions::Region;
 
@@ -36,7 +37,10 @@ fn stepped(rt: &impl Print, region: Region, step: usize) -> Region
 {
     let letter = (step / LETTER % 256) as u8;
     let amount = (step % 65536) as u16;
-    let after = operations::operated(region, letter, amount);
+    let after = match Operation::of_letter(letter) {
+        Some(operation) => operations::operated(region, operation, amount),
+        None => region,
+    };
     let text = [letter, b'A' + letter / b'x' * 7];
     print::with(rt, &text, amount as usize);
     if letter < b'w' {
@@ -49,24 +53,13 @@ fn stepped(rt: &impl Print, region: Region, step: usize) -> Region
 
 // The whole parts, the groups and the prices, and the end of their line.
 pub fn parts(rt: &impl Print, region: Region) {
-    let n = region.timers as usize;
-    let whole = region.whole;
-    let group = region.group;
-    list(rt, b": whole", whole, n);
-    list(rt, b" groups", group, n);
-    prices(rt, region);
-}
-
-fn list(rt: &impl Print, name: &[u8; 7], of: [u8; Region::MOST_TIMERS], n: usize) {
-    let entries = [of[0] as u32, of[1] as u32, of[2] as u32];
-    print::text(rt, name);
-    print::list(rt, &entries, n);
-}
-
-fn prices(rt: &impl Print, region: Region) {
-    let prices = region.prices;
+    let timers = usize::from(region.timers);
+    print::text(rt, b": whole");
+    print::list(rt, &region.whole, timers);
+    print::text(rt, b" groups");
+    print::list(rt, &region.group, timers);
     print::text(rt, b" prices");
-    print::list(rt, &prices, region.top as usize + 1);
+    print::list(rt, &region.prices, usize::from(region.top) + 1);
     print::text(rt, b"\n");
 }
 

@@ -1,5 +1,4 @@
 // `search WORDS: TABLE`: the words that a search leaves, and the words after clearing. The words lent hold 7 before.
-ghost use Rattle.table.specs.Held.{IsTable};
 
 use crate::print;
 use crate::tokens::{LETTER, TOKENS};

@@ -1,5 +1,5 @@
 // The tokens of a line, between blanks: letters, a number, or letters and a number; and the bytes of a table behind its colon.
-ghost use Rattle.std.specs.Prelude.{◌<◌, ◌≡◌, length};
+ghost use Rattle.std.specs.Prelude.{◌<◌};
 
 // A line has fewer tokens and bytes; with as many they would be put at the first place again.
 pub const TOKENS: usize = 1024;
@@ -9,12 +9,10 @@ pub const LETTER: usize = 0x100_0000;
 
 // Puts the tokens before the colon, or before the line's end, at their places. Behind the last one there are zeros.
 pub fn read(line: &[u8], tokens: &mut [usize; TOKENS])
-    requires { length tokens.old ≡ 1024 }
 {
     let mut at = 0;
-    for i in 0..line.len() {
-        let byte = line[i];
-        if (byte == b':') | (byte == b'\n') {
+    for &byte in line {
+        if byte == b':' || byte == b'\n' {
             return;
         }
         at = put(byte, at, tokens);
@@ -23,8 +21,8 @@ pub fn read(line: &[u8], tokens: &mut [usize; TOKENS])
 
 // Puts a byte behind the byte that was put last, and says at which place. A blank is the first letter of its token, so that no token is 0.
 fn put(byte: u8, from: usize, tokens: &mut [usize; TOKENS]) -> usize
-    requires { (from < 1024) × (length tokens.old ≡ 1024) }
-    ensures { (result < 1024) × (length tokens.new ≡ 1024) }
+    requires { from < 1024 }
+    ensures { result < 1024 }
 {
     let at = (from + (byte == b' ') as usize) % TOKENS;
     tokens[at] = longer(tokens[at], byte);
@@ -44,20 +42,19 @@ fn longer(token: usize, byte: u8) -> usize {
 
 // Puts the bytes behind the colon at their places, and says how many there are.
 pub fn bytes(line: &[u8], bytes: &mut [u8; TOKENS]) -> usize
-    requires { length bytes.old ≡ 1024 }
-    ensures { (result < 1024) × (length bytes.new ≡ 1024) }
+    ensures { result < 1024 }
 {
     let mut digits = 0;
-    for i in 0..line.len() {
-        digits = put_digit(line[i], digits, bytes);
+    for &byte in line {
+        digits = put_digit(byte, digits, bytes);
     }
     digits / 2
 }
 
 // Puts a digit behind so many, of which two make a byte, and says how many there are then. Before the colon there are none.
 fn put_digit(byte: u8, digits: usize, bytes: &mut [u8; TOKENS]) -> usize
-    requires { (digits < 2048) × (length bytes.old ≡ 1024) }
-    ensures { (result < 2048) × (length bytes.new ≡ 1024) }
+    requires { digits < 2048 }
+    ensures { result < 2048 }
 {
     let d = digit(byte);
     if byte == b':' {

@@ -46,8 +46,6 @@ fn show(rt: &impl Print, answer: Result<usize, Refusal>, destination: &[u8; ROOM
 
 // The bytes of a table, and the end of their line.
 fn listed(rt: &impl Print, bytes: &[u8; ROOM], n: usize) {
-    for i in 0..n % 1025 {
-        print::byte(rt, bytes[i]);
-    }
+    print::bytes(rt, bytes, n);
     print::text(rt, b"\n");
 }

@@ -6,6 +6,7 @@ use mathlib.Core.Logic.{◌↔◌}
 use mathlib.Core.List.{List}
 use Prim.Native.Nat.{ℕ}
 use lib.ListN.{take}
+use Rattle.std.specs.Prelude.{Option}
 use Rattle.semantics.specs.Automaton.{mode_at}
 use Rattle.semantics.specs.Region.{top, delay, meets_all, within}
 use Rattle.semantics.specs.Nodes.Node.{node_of, node_number}
@@ -17,8 +18,9 @@ use Rattle.regions.specs.declared.nodes.NodeRegion.{NodeRegion}
 use Rattle.regions.specs.Held.{pack, view, Valid, HalfRoom}
 use Rattle.space.specs.declared.Space.{Space}
 use Rattle.steps.specs.declared.Stand.{Stand}
+use Rattle.steps.specs.declared.Next.{Next}
 use Rattle.space.specs.Space.{Setting, IsCorner, place_at}
-use Rattle.steps.specs.Leading.{IsLed, DelayEdges, LedDelayReady, StepReady, Silent, TriedOne}
+use Rattle.steps.specs.Leading.{IsLed, DelayEdges, LedDelayReady, StepReady, Silent, TriedOne, IsFound}
 use Rattle.space.proofs.Settings.{halves_of}
 use Rattle.steps.proofs.Sets.{refused}
 use Rattle.steps.proofs.Standing.{stand-setting}
@@ -64,9 +66,9 @@ module _ {t : List ℕ} {s : Space} {x : NodeRegion} {z : Stand} {ws : List ℕ}
           (delayed-seen setting corner delayed made) rate rate-is
 
       pub tried-delay :
-          (k : ℕ) → k ≡ top (view x.region) → (set : ℕ) → IsLed z ws to (DelayEdges (view delayed) k rate) set
-          → TriedOne t s z ws 64 (record { byte = 64; first = to; set = set })
-      tried-delay k k-is set led =
+          (k : ℕ) → k ≡ top (view x.region) → {set : ℕ} → IsLed z ws to (DelayEdges (view delayed) k rate) set → {r : Option Next}
+          → IsFound 64 to set r → TriedOne t s z ws 64 r
+      tried-delay k k-is led =
           delay-tried w conditions (delayed-is-place setting corner delayed made ceilings) ceilings to
-          (to_is ∙ delayed-number setting corner delayed made) set
+          (to_is ∙ delayed-number setting corner delayed made)
           (rw (delayed-seen setting corner delayed made, k-is, rate-is) at led)

@@ -6,6 +6,7 @@ use mathlib.Core.Option.{some}
 use Prim.Native.Nat.{ℕ, ◌+◌, ◌*◌, ◌/◌, ◌%◌, ◌≤◌, ◌<◌}
 use native.Mathlib.Omega.{arith}
 use lib.ListN.{length}
+use Rattle.std.specs.Prelude.{Option}
 use Rattle.semantics.specs.Automaton.{Automaton, move_at}
 use Rattle.semantics.specs.Region.{PricedRegion, top}
 use Rattle.semantics.specs.Corners.Edges.{reset_all_corner}
@@ -24,11 +25,12 @@ use Rattle.regions.specs.declared.nodes.NodeRegion.{NodeRegion}
 use Rattle.regions.specs.Held.{view}
 use Rattle.space.specs.declared.Space.{Space}
 use Rattle.steps.specs.declared.Stand.{Stand}
+use Rattle.steps.specs.declared.Next.{Next}
 use Rattle.space.specs.Space.{place_at}
 use Rattle.space.specs.Images.{LastAtMost}
 use Rattle.steps.specs.Images.{corner_of, Goes, IsImage}
 use Rattle.steps.specs.Steps.{Marked, Tells}
-use Rattle.steps.specs.Leading.{IsLed, MoveEdges, LedMoveReady, StepReady, Allowed, TriedOne}
+use Rattle.steps.specs.Leading.{IsLed, MoveEdges, LedMoveReady, StepReady, Allowed, TriedOne, IsFound}
 use Rattle.space.proofs.Settings.{place-row, region-ceilings}
 use Rattle.space.proofs.Imaging.{last-corner}
 use Rattle.space.proofs.MoveEdges.{mode-block}
@@ -128,10 +130,9 @@ module _ {t : List ℕ} {s : Space} {x : NodeRegion} {z : Stand} {ws : List ℕ}
         }
 
         pub along-tried :
-            (set : ℕ) → IsLed z ws (image % 65536 + target * s.block) (MoveEdges (image / 65536) price 4) set
-            → TriedOne t s z ws e (record { byte = e; first = image % 65536 + target * s.block; set = set })
-        along-tried set given =
+            {set : ℕ} → IsLed z ws (image % 65536 + target * s.block) (MoveEdges (image / 65536) price 4) set → {r : Option Next}
+            → IsFound e (image % 65536 + target * s.block) set r → TriedOne t s z ws e r
+        along-tried {set} given found =
             let led : IsLed z ws to (MoveEdges (image / 65536) (move_at a e).price 4) set =
             subst (λ (n : ℕ). IsLed z ws to (MoveEdges (image / 65536) n 4) set) price-is given in
-            tried-one w e allowed.1.0 leads (record { byte = e; first = to; set = set }) refl moved-first led.sixteen
-            (λ l d tells i. (moved-led led l d tells i, led-moved led l d tells i))
+            tried-one w e allowed.1.0 leads moved-first led.sixteen (λ l d tells i. (moved-led led l d tells i, led-moved led l d tells i)) found

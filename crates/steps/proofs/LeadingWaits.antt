@@ -9,6 +9,7 @@ use Prim.Native.Nat.{ℕ, ◌+◌, ◌≤◌, ◌<◌}
 use native.Mathlib.Omega.{arith}
 use lib.Dec.{ltb}
 use lib.ListN.{length}
+use Rattle.std.specs.Prelude.{Option}
 use Rattle.semantics.specs.Automaton.{Automaton, mode_at}
 use Rattle.semantics.specs.Region.{PricedRegion, top, no_zero, meets_all, within}
 use Rattle.semantics.specs.Chain.{Place, linger_step, step}
@@ -32,9 +33,10 @@ use Rattle.regions.specs.declared.nodes.NodeRegion.{NodeRegion}
 use Rattle.regions.specs.Held.{view, Valid}
 use Rattle.space.specs.declared.Space.{Space}
 use Rattle.steps.specs.declared.Stand.{Stand}
+use Rattle.steps.specs.declared.Next.{Next}
 use Rattle.space.specs.Space.{place_at}
 use Rattle.steps.specs.Steps.{Marked, Tells}
-use Rattle.steps.specs.Leading.{Adds, LedTo, LeadReady, IsLed, DelayEdges, LedDelayReady, StepReady, Silent, TriedOne}
+use Rattle.steps.specs.Leading.{Adds, LedTo, LeadReady, IsLed, DelayEdges, LedDelayReady, StepReady, Silent, TriedOne, IsFound}
 use Rattle.space.proofs.Settings.{place-row, top_below, corner-number, corner-below}
 use Rattle.steps.proofs.Sets.{none-marked}
 use Rattle.steps.proofs.Leads.{weight-small}
@@ -123,11 +125,11 @@ module _ {t : List ℕ} {s : Space} {x : NodeRegion} {z : Stand} {ws : List ℕ}
           )
 
     pub delay-tried :
-        (set : ℕ) → IsLed z ws to (DelayEdges next (top (view x.region)) (rate_at (automaton_of t) (place_at x))) set
-        → TriedOne t s z ws 64 (record { byte = 64; first = to; set = set })
-    delay-tried set led =
-        tried-one w 64 (after a p) leads (record { byte = 64; first = to; set = set }) refl
-        (to_is ∙ sym (delayed-number a p (after a p) leads 0)) led.sixteen (λ l d tells i. (delay-led led l d tells i, led-delayed led l d tells i))
+        {set : ℕ} → IsLed z ws to (DelayEdges next (top (view x.region)) (rate_at (automaton_of t) (place_at x))) set → {r : Option Next}
+        → IsFound 64 to set r → TriedOne t s z ws 64 r
+    delay-tried {set} led found =
+        tried-one w 64 (after a p) leads (to_is ∙ sym (delayed-number a p (after a p) leads 0)) led.sixteen
+        (λ l d tells i. (delay-led led l d tells i, led-delayed led l d tells i)) found
 
   -- Linger leads nowhere where r0 is not empty,
   pub linger-idle : (no_zero (view x.region) ≡ true → ⊥) → Silent t s z ws 65
@@ -185,13 +187,12 @@ module _ {t : List ℕ} {s : Space} {x : NodeRegion} {z : Stand} {ws : List ℕ}
           let tight = (tight-grows w d tells 0 o.1 (rate_at a p) rate-small (x.first + top (view x.region)) last-inside).1 grows in
           (adds.marks i).1 (inr (o.0, (o.1, tight)))
 
-    tried : TriedOne t s z ws 65 (record { byte = 65; first = x.first; set = set })
+    tried : {r : Option Next} → IsFound 65 x.first set r → TriedOne t s z ws 65 r
     tried =
-        tried-one w 65 lingers.0 lingers.1 (record { byte = 65; first = x.first; set = set }) refl
-        (w.here.corner.first-is ∙ sym (lingered-number a p lingers.0 lingers.1 0)) adds.sixteen
+        tried-one w 65 lingers.0 lingers.1 (w.here.corner.first-is ∙ sym (lingered-number a p lingers.0 lingers.1 0)) adds.sixteen
         (λ l d tells i. (λ m. linger-led l d tells i ((adds.marks i).0 m), led-lingered l d tells i))
 
   pub linger-tried :
       no_zero (view x.region) ≡ true → (last rate set : ℕ) → last ≡ top (view x.region) → rate ≡ rate_at (automaton_of t) (place_at x)
-      → Adds (LedTo z ws x.first 0 rate last) 0 last set → TriedOne t s z ws 65 (record { byte = 65; first = x.first; set = set })
+      → Adds (LedTo z ws x.first 0 rate last) 0 last set → {r : Option Next} → IsFound 65 x.first set r → TriedOne t s z ws 65 r
   linger-tried empty last rate set last-is rate-is adds = tried empty (rw (last-is, rate-is) at adds)

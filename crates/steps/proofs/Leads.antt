@@ -17,16 +17,8 @@ use Rattle.steps.specs.Steps.{Marked}
 use Rattle.steps.specs.Images.{corner_of}
 use Rattle.steps.specs.Leading.{Adds, LedTo, IsLed, MoveEdges, DelayEdges}
 use Rattle.space.proofs.Settings.{padded-at}
-use Rattle.steps.proofs.Sets.{none-marked}
 
 module _ {z : Stand} {ws : List ℕ} {to : ℕ} where
-  -- No edges lead nowhere.
-  led-none : {E : ℕ → ℕ → ℕ → Type 0} → ((j w i : ℕ) → E j w i → ⊥) → IsLed z ws to E 0
-  led-none none = record {
-    sixteen = omega arith;
-    marks = λ i. (λ m. absurd (none-marked i m), λ o. absurd (none o.0 o.1 i o.2));
-  }
-
   -- One edge more.
   led-more :
       {E F : ℕ → ℕ → ℕ → Type 0} {set j weight i r : ℕ} → ((k w n : ℕ) → E k w n → F k w n) → F j weight i
@@ -59,9 +51,6 @@ module _ {z : Stand} {ws : List ℕ} {to : ℕ} where
 
 -- The edges of a move, corner by corner.
 module _ {z : Stand} {ws : List ℕ} {to : ℕ} (map price : ℕ) where
-  pub moves-none : IsLed z ws to (MoveEdges map price 0) 0
-  moves-none = led-none (λ j w i e. omega (arith, e.0))
-
   pub moves_more :
       {m i set r : ℕ} → i ≡ corner_of map m → IsLed z ws to (MoveEdges map price m) set → Adds (LedTo z ws to m price i) set i r
       → IsLed z ws to (MoveEdges map price (m + 1)) r
@@ -73,18 +62,11 @@ module _ {z : Stand} {ws : List ℕ} {to : ℕ} (map price : ℕ) where
       only k w n e (yes q) = inr (q, e.2, e.1 ∙ ap (corner_of map) q ∙ sym is)
       only k w n e (no q) = inl (omega (arith, e.0), e.1, e.2)
 
-  -- All were looked at.
-  pub moves-all : {m r : ℕ} → m ≤ 4 → 4 ≤ m → IsLed z ws to (MoveEdges map price m) r → IsLed z ws to (MoveEdges map price 4) r
-  moves-all {m} few past led = let all : m ≡ 4 = omega arith in rw all at led
-
 -- The edges of a delay to the corners below m.
 abbrev pub DelaysBelow : List ℕ → ℕ → ℕ → ℕ → ℕ → ℕ → ℕ → Type 0
 DelaysBelow prices k rate m j weight i = (i < m) × (j ≡ get_or prices i 0) × (weight ≡ cond (ltb k i) rate 0)
 
 module _ {z : Stand} {ws : List ℕ} {to : ℕ} (prices : List ℕ) (k rate : ℕ) where
-  pub delays-none : IsLed z ws to (DelaysBelow prices k rate 0) 0
-  delays-none = led-none (λ j w i e. omega (arith, e.0))
-
   pub delays-more :
       {m w set r : ℕ} → w ≡ cond (ltb k m) rate 0 → IsLed z ws to (DelaysBelow prices k rate m) set
       → Adds (LedTo z ws to (get_or prices m 0) w m) set m r → IsLed z ws to (DelaysBelow prices k rate (m + 1)) r

@@ -1,12 +1,14 @@
 -- The moves of a walk: those that are passed over lead nowhere, and the others are allowed.
 -- Assumes nothing.
 use mathlib.Core.Path.{◌≡◌, sym, subst, ◌∙◌}
-use mathlib.Core.Logic.{◌≢◌}
+use mathlib.Core.Bool.{true, false}
 use mathlib.Core.List.{List}
 use mathlib.Core.Option.{some}
 use Prim.Native.Nat.{ℕ, ◌+◌, ◌≤◌, ◌<◌}
 use native.Mathlib.Decide.{ℕ_discrete, dec_lt}
 use native.Mathlib.Omega.{arith}
+use Rattle.std.specs.Prelude.{Option, Some, None}
+use Rattle.std.specs.Option.{is_some}
 use Rattle.semantics.specs.Automaton.{Automaton, mode_at, move_at}
 use Rattle.semantics.specs.Chain.{Place, step}
 use Rattle.semantics.specs.Graph.Path.{Entry}
@@ -16,7 +18,8 @@ use Rattle.semantics.proofs.Answers.Moving.{moved_to, edge-move}
 use Rattle.semantics.specs.Answers.Marks.{Led}
 use Rattle.table.specs.Meaning.{named_timers}
 use Rattle.table.specs.Held.{automaton_of, fields_of, move_fields_at}
-use Rattle.rules.specs.Rules.{none, IsRules}
+use Rattle.rules.specs.Rules.{none, as_move, after_of, IsRules}
+use Rattle.rules.specs.Laws.Moves.{some-move}
 use Rattle.rules.proofs.Joining.{move-resets}
 use Rattle.regions.specs.declared.nodes.NodeRegion.{NodeRegion}
 use Rattle.regions.specs.Held.{view}
@@ -24,14 +27,16 @@ use Rattle.space.specs.declared.Space.{Space}
 use Rattle.steps.specs.declared.Stand.{Stand}
 use Rattle.steps.specs.declared.Next.{Next}
 use Rattle.space.specs.Space.{place_at}
-use Rattle.space.specs.Moves.{Open, OpenMove, OpenFrom}
+use Rattle.space.specs.Moves.{Open, OpenMove, OpenFrom, OpenNamed, NextDone}
+use Rattle.space.specs.Images.{Images}
 use Rattle.steps.specs.Images.{IsImage}
-use Rattle.steps.specs.Steps.{Marked, no_step}
+use Rattle.steps.specs.Steps.{Marked}
 use Rattle.steps.specs.Leading.{StepReady, Allowed, AlongReady, Silent, TriedOne, Tried, MoveByte}
 use Rattle.space.proofs.Settings.{halves_of}
+use Rattle.space.proofs.MovesFrom.{after-open}
 use Rattle.space.proofs.MoveEdges.{open-edge, edge-open}
 use Rattle.steps.proofs.Standing.{stand-corners, silent-here}
-use Rattle.steps.proofs.Trying.{tried-none, tried-found}
+use Rattle.steps.proofs.Trying.{no-step, tried-none, tried-found}
 
 -- The bytes from the walk's on and before e lead nowhere.
 pub record SilentTo (t : List ℕ) (s : Space) (z : Stand) (ws : List ℕ) (e : ℕ) : Type 0 where
@@ -88,20 +93,45 @@ module _ {t : List ℕ} {s : Space} {x : NodeRegion} {z : Stand} {ws : List ℕ}
 
   -- and the next, after one that leads nowhere.
   pub silent-next :
-      {e n : ℕ} {r : Next} → SilentTo t s z ws e → TriedOne t s z ws e r → r.set ≡ 0 → OpenFrom t rs hs x.mode (e + 1) n → SilentTo t s z ws n
+      {e n : ℕ} {r : Option Next} → SilentTo t s z ws e → TriedOne t s z ws e r → is_some r ≡ false → OpenFrom t rs hs x.mode (e + 1) n → SilentTo t s z ws n
   silent-next {e} {n} {r} to one none o =
       record { above = omega (arith, to.above, o.low); silent = λ k h b. at k h b (dec_lt k e) (ℕ_discrete k e) }
     where
       at : (k : ℕ) → z.byte ≤ k → k < n → Dec (k < e) → Dec (k ≡ e) → Silent t s z ws k
       at k h b (yes l) q = to.silent k h l
-      at k h b (no l) (yes q) = rw q (one.silent none)
+      at k h b (no l) (yes q) = rw q (one.silent (no-step none))
       at k h b (no l) (no q) = passed o k (omega arith) b
 
 module _ {t : List ℕ} {s : Space} {z : Stand} {ws : List ℕ} {e : ℕ} (to : SilentTo t s z ws e) where
   -- It leads on,
-  pub move-found : e < 64 → {r : Next} → TriedOne t s z ws e r → r.set ≢ 0 → Tried t s z ws (MoveByte z) r
-  move-found h one n = tried-found one n (omega arith) (to.above, h) (λ j m b. to.silent j m.0 b)
+  pub move-found : e < 64 → {r : Option Next} → TriedOne t s z ws e r → is_some r ≡ true → Tried t s z ws (MoveByte z) r
+  move-found h one found = tried-found one found (omega arith) (to.above, h) (λ j m b. to.silent j m.0 b)
 
   -- or none does.
-  pub moves-none : 64 ≤ e → {r : Next} → r ≡ no_step → Tried t s z ws (MoveByte z) r
-  moves-none h e = tried-none e (λ k m. to.silent k m.0 (omega arith))
+  pub moves-none : 64 ≤ e → Tried t s z ws (MoveByte z) None
+  moves-none h = tried-none (λ k m. to.silent k m.0 (omega arith))
+
+-- What holds at each turn: the moves before the next one lead nowhere, and what is kept of images is right.
+pub record Turn (t rs : List ℕ) (s : Space) (x : NodeRegion) (z : Stand) (ws hs : List ℕ) (next : Option ℕ) (images : List ℕ) : Type 0 where
+  pub byte : ℕ
+  pub named : next ≡ as_move byte
+  pub move : OpenMove t rs hs x.mode byte
+  pub silent : SilentTo t s z ws byte
+  pub images-are : Images (IsImage s x) images
+
+-- Move e is next.
+pub record TurnAt (t rs : List ℕ) (s : Space) (x : NodeRegion) (z : Stand) (ws hs : List ℕ) (e : ℕ) : Type 0 where
+  pub some : e < none
+  pub move : OpenMove t rs hs x.mode e
+  pub silent : SilentTo t s z ws e
+
+pub turn-at :
+    {t rs : List ℕ} {s : Space} {x : NodeRegion} {z : Stand} {ws hs : List ℕ} {next : Option ℕ} {images : List ℕ}
+    → Turn t rs s x z ws hs next images → {e : ℕ} → next ≡ Some e → TurnAt t rs s x z ws hs e
+turn-at turn q = let o = some-move turn.named q in record { some = o.1; move = rw o.0 at turn.move; silent = rw o.0 at turn.silent }
+
+-- The next after it.
+pub turn-next :
+    {t rs : List ℕ} {s : Space} {x : NodeRegion} {z : Stand} {ws hs : List ℕ} {e : ℕ} → TurnAt t rs s x z ws hs e → IsRules t rs
+    → {from result : Option ℕ} → from ≡ as_move (after_of rs e) → NextDone rs hs from result → OpenNamed t rs hs x.mode (e + 1) result
+turn-next turn rules is done = after-open rules (turn.move.there turn.some) is (turn.move.source turn.some) done

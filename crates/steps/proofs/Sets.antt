@@ -2,8 +2,9 @@
 -- Assumes nothing.
 use mathlib.Core.Path.{◌≡◌, refl, sym, ap, ◌∙◌}
 use mathlib.Core.Bool.{Bool, true, false, cond, ◌&&◌, ◌||◌, true≢false}
+use Rattle.std.proofs.Common.{bit_or}
 use mathlib.Core.Logic.{◌↔◌, ◌⊎◌, ◌≢◌, inl, inr}
-use Prim.Native.Nat.{ℕ, zero, suc, ◌+◌, ◌*◌, ◌/◌, ◌%◌, ◌^◌, ◌≤◌, ◌<◌}
+use Prim.Native.Nat.{ℕ, zero, suc, ◌*◌, ◌/◌, ◌%◌, ◌^◌, ◌≤◌, ◌<◌}
 use native.Mathlib.Nat.{pow-le-pow_right, div-eq_of_lt, zero-div}
 use native.Mathlib.Decide.{ℕ_discrete, dec_lt}
 use native.Mathlib.Omega.{arith}
@@ -15,12 +16,9 @@ use Rattle.semantics.specs.Corners.Every.{every_from, every-at}
 use Rattle.steps.specs.Steps.{Marked}
 use Rattle.steps.specs.Leading.{Adds}
 
--- A test that fails says that what it tests does not hold, and the other way round.
+-- A test that fails says that what it tests does not hold.
 pub refused : {A : Type 0} {b : Bool} → (b ≡ true) ↔ A → b ≡ false → A → ⊥
 refused t e a = true≢false (sym (t.1 a) ∙ e)
-
-pub refutes : {A : Type 0} → (A → ⊥) → (false ≡ true) ↔ A
-refutes n = (λ e. absurd (true≢false (sym e)), λ a. absurd (n a))
 
 -- A test that is computed for each number below n.
 abbrev every_below : ℕ → (ℕ → Bool) → Bool
@@ -29,12 +27,12 @@ every_below n f = every_from {A = ℕ} (λ i z. f i) 0 (replicate n 0)
 every-below : (n : ℕ) (f : ℕ → Bool) → every_below n f ≡ true → (i : ℕ) → i < n → f i ≡ true
 every-below n f t i h = every-at {A = ℕ} (λ j z. f j) (replicate n 0) t i 0 (rw (length-replicate {A = ℕ} n 0) h)
 
--- A corner that is not in a set, added to it: the sum is below 16, and has the other bits as before.
+-- A corner added to a set: what it makes is below 16, has the bit of the corner, and the other bits as before.
 added_at : ℕ → ℕ → ℕ → Bool
-added_at set corner i = eqb ((set + 2 ^ corner) / 2 ^ i % 2) (cond (eqb i corner) 1 (set / 2 ^ i % 2))
+added_at set corner i = eqb (bit_or set (2 ^ corner) / 2 ^ i % 2) (cond (eqb i corner) 1 (set / 2 ^ i % 2))
 
 added : ℕ → ℕ → Bool
-added set corner = eqb (set / 2 ^ corner % 2) 1 || (ltb (set + 2 ^ corner) 16 && every_below 4 (added_at set corner))
+added set corner = ltb (bit_or set (2 ^ corner)) 16 && every_below 4 (added_at set corner)
 
 all-added : every_below 16 (λ set. every_below 4 (added set)) ≡ true
 unfolding added added_at
@@ -75,33 +73,6 @@ some-marked set h n = at _ refl _ refl _ refl (rw (ne_eqb set 0 n) at (every-bel
     at false e false f true g t = (2, eqb-true _ _ g)
     at false e false f false g t = (3, eqb-true _ _ t)
 
--- What does not fit leaves the set as it was.
-pub adds_none : {Fits : Type 0} (set corner : ℕ) → set < 16 → (Fits → ⊥) → Adds Fits set corner set
-adds_none {Fits} set corner h n = record { sixteen = h; marks = λ i. (λ m. inl m, from i) }
-  where
-    from : (i : ℕ) → Marked set i ⊎ ((i ≡ corner) × Fits) → Marked set i
-    from i (inl m) = m
-    from i (inr o) = absurd (n o.1)
-
-pub adds-fits : {Fits : Type 0} (set corner r : ℕ) → Fits → Adds (Unit {0}) set corner r → Adds Fits set corner r
-adds-fits {Fits} set corner r fits a = record { sixteen = a.sixteen; marks = λ i. (λ m. to i ((a.marks i).0 m), λ o. (a.marks i).1 (from i o)) }
-  where
-    to : (i : ℕ) → Marked set i ⊎ ((i ≡ corner) × Unit {0}) → Marked set i ⊎ ((i ≡ corner) × Fits)
-    to i (inl m) = inl m
-    to i (inr o) = inr (o.0, fits)
-
-    from : (i : ℕ) → Marked set i ⊎ ((i ≡ corner) × Fits) → Marked set i ⊎ ((i ≡ corner) × Unit {0})
-    from i (inl m) = inl m
-    from i (inr o) = inr (o.0, tt)
-
--- A corner that is in the set.
-pub with-same : (set corner : ℕ) → set < 16 → Marked set corner → Adds (Unit {0}) set corner set
-with-same set corner h m = record { sixteen = h; marks = λ i. (λ k. inl k, from i) }
-  where
-    from : (i : ℕ) → Marked set i ⊎ ((i ≡ corner) × Unit {0}) → Marked set i
-    from i (inl k) = k
-    from i (inr o) = rw o.0 m
-
 -- A shift in 32 bits.
 pub shifted : (corner : ℕ) → corner < 4 → 1 * 2 ^ corner % 2 ^ 32 ≡ 2 ^ corner
 shifted zero h = refl
@@ -110,32 +81,27 @@ shifted (suc (suc zero)) h = refl
 shifted (suc (suc (suc zero))) h = refl
 shifted (suc (suc (suc (suc n)))) h = absurd (omega arith)
 
--- One that is not.
-module _ (set corner : ℕ) (h : set < 16) (few : corner < 4) (out : Marked set corner → ⊥) where
-  tested : (ltb (set + 2 ^ corner) 16 && every_below 4 (added_at set corner)) ≡ true
+-- The set with a corner.
+module _ (set corner : ℕ) (h : set < 16) (few : corner < 4) where
+  tested : (ltb (bit_or set (2 ^ corner)) 16 ≡ true) × (every_below 4 (added_at set corner) ≡ true)
   unfolding added
-  tested =
-      let t = every-below 4 (added set) (every-below 16 (λ s. every_below 4 (added s)) all-added set h) corner few in
-      rw (ne_eqb (set / 2 ^ corner % 2) 1 out) at t
+  tested = (and-true-iff _ _).0 (every-below 4 (added set) (every-below 16 (λ s. every_below 4 (added s)) all-added set h) corner few)
 
-  pub with-below : set + 2 ^ corner < 16
-  with-below = ltb-true (set + 2 ^ corner) 16 ((and-true-iff _ _).0 tested).0
+  below : bit_or set (2 ^ corner) < 16
+  below = ltb-true _ 16 tested.0
 
-  bit : (i : ℕ) → i < 4 → (set + 2 ^ corner) / 2 ^ i % 2 ≡ cond (eqb i corner) 1 (set / 2 ^ i % 2)
+  bit : (i : ℕ) → i < 4 → bit_or set (2 ^ corner) / 2 ^ i % 2 ≡ cond (eqb i corner) 1 (set / 2 ^ i % 2)
   unfolding added_at
-  bit i l = eqb-true _ _ (every-below 4 (added_at set corner) ((and-true-iff (ltb (set + 2 ^ corner) 16) (every_below 4 (added_at set corner))).0 tested).1 i l)
+  bit i l = eqb-true _ _ (every-below 4 (added_at set corner) tested.1 i l)
 
-  pub with-more : Adds (Unit {0}) set corner (set + 2 ^ corner)
-  with-more = record { sixteen = with-below; marks = λ i. (λ m. to i m (ℕ_discrete i corner), from i) }
+  pub with-corner : Adds (Unit {0}) set corner (bit_or set (2 ^ corner))
+  with-corner = record { sixteen = below; marks = λ i. (λ m. to i m (ℕ_discrete i corner), from i (ℕ_discrete i corner)) }
     where
-      to : (i : ℕ) → Marked (set + 2 ^ corner) i → Dec (i ≡ corner) → Marked set i ⊎ ((i ≡ corner) × Unit {0})
+      to : (i : ℕ) → Marked (bit_or set (2 ^ corner)) i → Dec (i ≡ corner) → Marked set i ⊎ ((i ≡ corner) × Unit {0})
       to i m (yes e) = inr (e, tt)
-      to i m (no n) =
-          let l = marked-few (set + 2 ^ corner) i with-below m in
-          inl (sym (rw (ne_eqb i corner n) at (bit i l)) ∙ m)
+      to i m (no n) = inl (sym (rw (ne_eqb i corner n) at (bit i (marked-few _ i below m))) ∙ m)
 
-      from : (i : ℕ) → Marked set i ⊎ ((i ≡ corner) × Unit {0}) → Marked (set + 2 ^ corner) i
-      from i (inl m) =
-          let n : i ≢ corner = λ e. out (rw e at m) in
-          (rw (ne_eqb i corner n) at (bit i (marked-few set i h m))) ∙ m
-      from i (inr o) = rw (eq-eqb i corner o.0) at (bit i (rw o.0 few))
+      from : (i : ℕ) → Dec (i ≡ corner) → Marked set i ⊎ ((i ≡ corner) × Unit {0}) → Marked (bit_or set (2 ^ corner)) i
+      from i (yes e) _ = rw (eq-eqb i corner e) at (bit i (rw e few))
+      from i (no n) (inl m) = (rw (ne_eqb i corner n) at (bit i (marked-few set i h m))) ∙ m
+      from i (no n) (inr o) = absurd (n o.0)

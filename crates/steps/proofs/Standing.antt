@@ -1,13 +1,16 @@
 -- A walk that stands at the place of a struct: what the words say of the edges that leave its marked corners, and of the step along them.
 -- Assumes nothing.
-use mathlib.Core.Path.{◌≡◌, sym, ap, subst, ◌∙◌}
-use mathlib.Core.Logic.{◌↔◌}
+use mathlib.Core.Path.{◌≡◌, refl, sym, ap, subst, ◌∙◌}
+use mathlib.Core.Logic.{◌↔◌, ◌≢◌}
 use mathlib.Core.List.{List}
 use mathlib.Core.Option.{some, some-injective}
 use Prim.Native.Nat.{ℕ, ◌+◌, ◌≤◌, ◌<◌}
+use native.Mathlib.Decide.{ℕ_discrete}
 use native.Mathlib.Numerals.{add-one}
 use native.Mathlib.Omega.{arith}
 use lib.ListN.{length, take}
+use Rattle.std.specs.Prelude.{Option}
+use Rattle.std.proofs.lemmas.Option.{none-some, same_Some}
 use Rattle.semantics.specs.Automata.Proper.{Proper}
 use Rattle.semantics.specs.Automaton.{Automaton}
 use Rattle.semantics.specs.Region.{top}
@@ -29,7 +32,7 @@ use Rattle.steps.specs.declared.Stand.{Stand}
 use Rattle.steps.specs.declared.Next.{Next}
 use Rattle.space.specs.Space.{Setting, place_at}
 use Rattle.steps.specs.Steps.{Marked, stand_place, Tells, StandReady, Leads}
-use Rattle.steps.specs.Leading.{TightAt, CornersReady, StepReady, Silent, TriedOne}
+use Rattle.steps.specs.Leading.{TightAt, CornersReady, StepReady, Silent, LeadsOn, TriedOne, IsFound}
 use Rattle.space.specs.Laws.NodeRegion.{corner-at}
 use Rattle.space.proofs.Settings.{place-row, place-below, setting-proper, corner-number, corner-below}
 use Rattle.steps.proofs.Sets.{none-marked, some-marked}
@@ -110,40 +113,42 @@ module _ {t : List ℕ} {s : Space} {x : NodeRegion} {z : Stand} {ws : List ℕ}
       subst (λ (q : Place). (y : Place) (i : ℕ) → step a k q ≡ some y → Led a l d q z.steps (Marked z.set) k y i → ⊥) w.here.place_is
       (none l d tells)
 
-  -- It leads to the place y, of which r has the first node and the corners to which tight edges lead.
+  -- It leads to the place y, whose first node was found with the corners to which tight edges lead.
   pub tried-one :
-      (k : ℕ) (y : Place) → step (automaton_of t) k (place_at x) ≡ some y → (r : Next) → r.byte ≡ k → r.first ≡ number_of (automaton_of t) y 0
-      → r.set < 16
+      (k : ℕ) (y : Place) → step (automaton_of t) k (place_at x) ≡ some y → {first set : ℕ} → first ≡ number_of (automaton_of t) y 0 → set < 16
       → ((l : ℕ) (d : ℕ → Entry) → Tells s z ws d → (i : ℕ)
-      → Marked r.set i ↔ Led (automaton_of t) l d (place_at x) z.steps (Marked z.set) k y i)
-      → TriedOne t s z ws k r
-  tried-one k y f r byte-is first-is few marks = record {
-    byte-is = byte-is;
-    leads = λ n l d tells.
-        let o = some-marked r.set few n in
-        subst (λ (q : Place). step a k q ≡ some y → ((i : ℕ) → Marked r.set i ↔ Led a l d q z.steps (Marked z.set) k y i) → Leads t l d z r)
-        (sym w.here.place_is) (λ g m. leads l d g m o.0 o.1) f (marks l d tells);
-    silent = λ e. silent-here k (λ l d tells v i g led. silent e l d tells v i g led);
-  }
+      → Marked set i ↔ Led (automaton_of t) l d (place_at x) z.steps (Marked z.set) k y i)
+      → {r : Option Next} → IsFound k first set r → TriedOne t s z ws k r
+  tried-one k y f {first} {set} first-is few marks {r} found = at (ℕ_discrete set 0)
     where
       leads :
-          (l : ℕ) (d : ℕ → Entry) → step a k (stand_place t z) ≡ some y
-          → ((i : ℕ) → Marked r.set i ↔ Led a l d (stand_place t z) z.steps (Marked z.set) k y i) → (i : ℕ) → Marked r.set i
-          → Leads t l d z r
-      leads l d g m i is = record {
-        place = y;
-        leads = subst (λ (b : ℕ). step a b (stand_place t z) ≡ some y) (sym byte-is) g;
-        first-is = first-is;
-        sixteen = few;
-        marks = λ n. subst (λ (b : ℕ). Marked r.set n ↔ Led a l d (stand_place t z) z.steps (Marked z.set) b y n) (sym byte-is) (m n);
-        corner = i;
-        marked = is;
-      }
+          set ≢ 0 → (l : ℕ) (d : ℕ → Entry) → Tells s z ws d → step a k (stand_place t z) ≡ some y
+          → ((i : ℕ) → Marked set i ↔ Led a l d (stand_place t z) z.steps (Marked z.set) k y i)
+          → Leads t l d z (record { byte = k; first = first; set = set })
+      leads n l d tells g m =
+          let o = some-marked set few n in
+          record { place = y; leads = g; first-is = first-is; sixteen = few; marks = m; corner = o.0; marked = o.1 }
+
+      leads_on : set ≢ 0 → LeadsOn t s z ws (record { byte = k; first = first; set = set })
+      leads_on n l d tells =
+          subst
+          (λ (q : Place). step a k q ≡ some y → ((i : ℕ) → Marked set i ↔ Led a l d q z.steps (Marked z.set) k y i)
+          → Leads t l d z (record { byte = k; first = first; set = set }))
+          (sym w.here.place_is) (leads n l d tells) f (marks l d tells)
 
       silent :
-          r.set ≡ 0 → (l : ℕ) (d : ℕ → Entry) → Tells s z ws d → (v : Place) (i : ℕ) → step a k p ≡ some v
+          set ≡ 0 → (l : ℕ) (d : ℕ → Entry) → Tells s z ws d → (v : Place) (i : ℕ) → step a k p ≡ some v
           → Led a l d p z.steps (Marked z.set) k v i → ⊥
       silent e l d tells v i g led =
           let same : v ≡ y = some-injective v y (sym g ∙ f) in
           let m = (marks l d tells i).1 (subst (λ (u : Place). Led a l d p z.steps (Marked z.set) k u i) same led) in
           none-marked i (subst (λ (u : ℕ). Marked u i) e m)
+
+      at : Dec (set ≡ 0) → TriedOne t s z ws k r
+      at (yes e) = record { leads = λ n q. absurd (none-some n (sym (found.none e) ∙ q)); silent = λ _. silent-here k (silent e) }
+      at (no n) = record {
+        leads = λ m q.
+            let same = same_Some _ m (sym (found.some n) ∙ q) in
+            subst (λ (u : Next). (u.byte ≡ k) × LeadsOn t s z ws u) same (refl, leads_on n);
+        silent = λ q. absurd (none-some _ (sym q ∙ found.some n));
+      }

@@ -1,6 +1,6 @@
 -- What the functions that look for the next step of a walk ask and find.
 -- Assumes nothing.
-use Rattle.std.specs.Prelude.{◌≡◌, cond, ◌↔◌, ◌⊎◌, ◌≢◌, List, ℕ, ◌+◌, ◌*◌, ◌≤◌, ◌<◌, ltb, length, get_or}
+use Rattle.std.specs.Prelude.{◌≡◌, cond, ◌↔◌, ◌⊎◌, ◌≢◌, List, ℕ, ◌+◌, ◌*◌, ◌≤◌, ◌<◌, ltb, Option, Some, None, length, get_or}
 use Rattle.std.proofs.Math.Option.{some}
 use Rattle.semantics.specs.Automaton.{move_at}
 use Rattle.semantics.specs.Region.{PricedRegion, top}
@@ -17,9 +17,9 @@ use Rattle.space.specs.declared.Space.{Space}
 use Rattle.steps.specs.declared.Stand.{Stand}
 use Rattle.steps.specs.declared.Next.{Next}
 use Rattle.space.specs.Space.{IsCorner, place_at}
-use Rattle.space.specs.Moves.{OpenFrom}
+use Rattle.space.specs.Moves.{OpenNamed}
 use Rattle.steps.specs.Images.{corner_of, IsImage}
-use Rattle.steps.specs.Steps.{Marked, stand_place, Tells, StandReady, Leads, no_step}
+use Rattle.steps.specs.Steps.{Marked, stand_place, Tells, StandReady, Leads, byte_of}
 
 -- The set r is the set with the corner, if it fits, and otherwise the set.
 pub record Adds (Fits : Type 0) (set corner r : ℕ) : Type 0 where
@@ -95,18 +95,15 @@ Silent t s z ws k =
 abbrev pub LeadsOn : List ℕ → Space → Stand → List ℕ → Next → Type 0
 LeadsOn t s z ws r = (l : ℕ) (d : ℕ → Entry) → Tells s z ws d → Leads t l d z r
 
--- The step of the byte k was tried: it leads on if it marks a corner.
-pub record TriedOne (t : List ℕ) (s : Space) (z : Stand) (ws : List ℕ) (k : ℕ) (r : Next) : Type 0 where
-  pub byte-is : r.byte ≡ k
-  pub leads : r.set ≢ 0 → LeadsOn t s z ws r
-  pub silent : r.set ≡ 0 → Silent t s z ws k
+-- The step of the byte k was tried: it leads on if there is one.
+pub record TriedOne (t : List ℕ) (s : Space) (z : Stand) (ws : List ℕ) (k : ℕ) (r : Option Next) : Type 0 where
+  pub leads : (n : Next) → r ≡ Some n → (n.byte ≡ k) × LeadsOn t s z ws n
+  pub silent : r ≡ None → Silent t s z ws k
 
 -- Those of some bytes were: r has the least of them that leads on, or is no step if none does.
-pub record Tried (t : List ℕ) (s : Space) (z : Stand) (ws : List ℕ) (Among : ℕ → Type 0) (r : Next) : Type 0 where
-  pub few : r.byte ≤ 66
-  pub none : r.byte ≡ 66 → r ≡ no_step
-  pub leads : r.byte < 66 → Among r.byte × LeadsOn t s z ws r
-  pub none_before : (k : ℕ) → Among k → k < r.byte → Silent t s z ws k
+pub record Tried (t : List ℕ) (s : Space) (z : Stand) (ws : List ℕ) (Among : ℕ → Type 0) (r : Option Next) : Type 0 where
+  pub leads : (n : Next) → r ≡ Some n → (n.byte < 66) × Among n.byte × LeadsOn t s z ws n
+  pub none_before : (k : ℕ) → Among k → k < byte_of r → Silent t s z ws k
 
 -- The bytes of moves, and one byte alone, from the walk's on.
 abbrev pub MoveByte : Stand → ℕ → Type 0
@@ -116,9 +113,9 @@ abbrev pub OnlyByte : ℕ → Stand → ℕ → Type 0
 OnlyByte b z k = (z.byte ≤ k) × (k ≡ b)
 
 -- r is the step, if it marks a corner, and otherwise none.
-pub record IsFound (byte first set : ℕ) (r : Next) : Type 0 where
-  pub none : set ≡ 0 → r ≡ no_step
-  pub some : set ≢ 0 → r ≡ record { byte = byte; first = first; set = set }
+pub record IsFound (byte first set : ℕ) (r : Option Next) : Type 0 where
+  pub none : set ≡ 0 → r ≡ None
+  pub some : set ≢ 0 → r ≡ Some (record { byte = byte; first = first; set = set })
 
 -- The walk stands at the place of the struct.
 pub record StepReady (t : List ℕ) (s : Space) (x : NodeRegion) (z : Stand) (ws : List ℕ) : Type 0 where
@@ -145,12 +142,12 @@ FromMode t rs mode byte = IsTable t × IsRules t rs × (mode < length (automaton
 abbrev pub FromReady : List ℕ → ℕ → ℕ → Type 0
 FromReady rs mode byte = (t : List ℕ) × FromMode t rs mode byte
 
-abbrev pub FromDone : List ℕ → List ℕ → ℕ → ℕ → ℕ → Type 0
-FromDone rs hs mode byte r = (t : List ℕ) → FromMode t rs mode byte → OpenFrom t rs hs mode byte r
+abbrev pub FromDone : List ℕ → List ℕ → ℕ → ℕ → Option ℕ → Type 0
+FromDone rs hs mode byte result = (t : List ℕ) → FromMode t rs mode byte → OpenNamed t rs hs mode byte result
 
 -- What is said of linger holds for every space of which the walk stands so.
 abbrev pub LingerReady : List ℕ → NodeRegion → Stand → List ℕ → Type 0
 LingerReady t x z ws = (s : Space) × StepReady t s x z ws
 
-abbrev pub LingerTried : List ℕ → NodeRegion → Stand → List ℕ → Next → Type 0
+abbrev pub LingerTried : List ℕ → NodeRegion → Stand → List ℕ → Option Next → Type 0
 LingerTried t x z ws r = (s : Space) → StepReady t s x z ws → Tried t s z ws (OnlyByte 65 z) r

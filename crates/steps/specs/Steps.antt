@@ -1,6 +1,6 @@
 -- The steps of a walk along best paths. The walk stands at a place with some corners marked: those to which tight edges led.
 -- Assumes nothing.
-use Rattle.std.specs.Prelude.{◌≡◌, ◌↔◌, List, ℕ, suc, ◌+◌, ◌*◌, ◌/◌, ◌%◌, ◌^◌, ◌≤◌, ◌<◌, length}
+use Rattle.std.specs.Prelude.{◌≡◌, ◌↔◌, List, ℕ, suc, ◌+◌, ◌*◌, ◌/◌, ◌%◌, ◌^◌, ◌≤◌, ◌<◌, Option, Some, None, length}
 use Rattle.std.proofs.Math.Option.{some}
 use Rattle.semantics.specs.Order.{cost}
 use Rattle.semantics.specs.Region.{top}
@@ -54,20 +54,19 @@ pub record Leads (t : List ℕ) (l : ℕ) (d : ℕ → Entry) (z : Stand) (r : N
   pub corner : ℕ
   pub marked : Marked r.set corner
 
--- No step: a byte that no step has, and 0 for the place and its corners.
-abbrev pub no_step : Next
-no_step = record { byte = 66; first = 0; set = 0 }
+-- The byte of a step, or one that no step has.
+abbrev pub byte_of : Option Next → ℕ
+byte_of None = 66
+byte_of (Some r) = r.byte
 
 -- r has the least byte, from the walk's on, along whose step a tight edge leads on; or is no step if there is none.
-pub record IsNext (t : List ℕ) (l : ℕ) (d : ℕ → Entry) (z : Stand) (r : Next) : Type 0 where
-  pub from : z.byte ≤ r.byte
-  pub few : r.byte ≤ 66
+pub record IsNext (t : List ℕ) (l : ℕ) (d : ℕ → Entry) (z : Stand) (r : Option Next) : Type 0 where
+  pub from : z.byte ≤ byte_of r
   pub none_before :
-      (k : ℕ) (y : Place) (i : ℕ) → z.byte ≤ k → k < r.byte → step (automaton_of t) k (stand_place t z) ≡ some y
+      (k : ℕ) (y : Place) (i : ℕ) → z.byte ≤ k → k < byte_of r → step (automaton_of t) k (stand_place t z) ≡ some y
       → Led (automaton_of t) l d (stand_place t z) z.steps (Marked z.set) k y i → ⊥
-  pub leads : r.byte < 66 → Leads t l d z r
-  pub none : r.byte ≡ 66 → r ≡ no_step
+  pub leads : (n : Next) → r ≡ Some n → (n.byte < 66) × Leads t l d z n
 
 -- For every goal, and every table of costs of which the words tell so.
-abbrev pub NextStep : List ℕ → Space → Stand → List ℕ → Next → Type 0
+abbrev pub NextStep : List ℕ → Space → Stand → List ℕ → Option Next → Type 0
 NextStep t s z ws r = (l : ℕ) (d : ℕ → Entry) → Tells s z ws d → IsNext t l d z r

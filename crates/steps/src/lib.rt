@@ -4,7 +4,7 @@
 ghost use Rattle.std.specs.Prelude.{◌≡◌, true, cond, ◌↔◌, ◌<◌, ltb};
 ghost use Rattle.rules.specs.Rules.{IsRules};
 ghost use Rattle.regions.specs.Held.{view};
-ghost use Rattle.steps.specs.Steps.{Marked, StandReady, no_step, NextStep};
+ghost use Rattle.steps.specs.Steps.{Marked, StandReady, NextStep};
 ghost use Rattle.steps.specs.Images.{corner_of, RegionReady, Goes, IsImage};
 ghost use Rattle.steps.specs.Leading.{Adds, TightReady, TightAt, LedTo, CornersReady, LeadReady, IsLed, MoveEdges, LedMoveReady, DelayEdges, LedDelayReady, TriedOne, Tried, MoveByte, OnlyByte, IsFound, StepReady, AlongReady, FromReady, FromDone, LingerReady, LingerTried};
 ghost use Rattle.table.specs.Meaning.{named_timers};
@@ -53,10 +53,7 @@ fn with(set: u32, corner: usize) -> u32
     requires { (set < 16) × (corner < 4) }
     ensures { Adds Unit set corner result }
 {
-    if marked(set, corner) {
-        return set;
-    }
-    set + (1 << corner)
+    set | 1 << corner
 }
 
 // Whether an edge of that weight is tight: by the words its end is reached along it, in so many steps.
@@ -64,10 +61,7 @@ fn tight(words: &[u32], from: usize, to: usize, weight: u32, steps: u32) -> bool
     requires { TightReady words.now from to weight }
     ensures { (result ≡ true) ↔ TightAt words.now from to weight steps }
 {
-    if words[2 * to + 1] != steps {
-        return false;
-    }
-    words[2 * to] == words[2 * from] + weight
+    words[2 * to + 1] == steps && words[2 * to] == words[2 * from] + weight
 }
 
 // The set with corner i, if corner j is marked and the edge of that weight from it to corner i of the place whose corner 0 is the node `to` is tight.
@@ -75,13 +69,10 @@ fn lead(words: &[u32], stand: Stand, set: u32, j: usize, to: usize, i: usize, we
     requires { CornersReady stand words.now × LeadReady words.now set j to i weight }
     ensures { Adds (LedTo stand words.now to j weight i) set i result }
 {
-    if !marked(stand.set, j) {
-        return set;
+    if marked(stand.set, j) && tight(words, stand.first + j, to + i, weight, stand.steps + 1) {
+        return with(set, i);
     }
-    if !tight(words, stand.first + j, to + i, weight, stand.steps + 1) {
-        return set;
-    }
-    with(set, i)
+    set
 }
 
 // The corner to which corner j goes by a map, which has two bits for each.
@@ -108,10 +99,7 @@ fn led_by_move(words: &[u32], stand: Stand, map: u32, to: usize, price: u32) -> 
 fn delay_weight(top: usize, corner: usize, rate: u32) -> u32
     ensures { result ≡ cond (ltb top corner) rate 0 }
 {
-    if top < corner {
-        return rate;
-    }
-    0
+    if top < corner { rate } else { 0 }
 }
 
 // The corners to which a delay leads. The region after it says by its prices which corner comes from where.
@@ -161,10 +149,7 @@ pub fn move_from(
 fn found(byte: usize, first: usize, set: u32) -> Option<Next>
     ensures { IsFound byte first set result }
 {
-    if set == 0 {
-        return None;
-    }
-    Some(Next { byte, first, set })
+    (set != 0).then_some(Next { byte, first, set })
 }
 
 // The map of resets: where each corner of the region before them goes. The region after them says so by its prices.
@@ -186,10 +171,8 @@ fn image_of(space: Space, at: NodeRegion, resets: u8) -> u32
     requires { ImageReady space at resets }
     ensures { IsImage space at (named_timers resets) result }
 {
-    let region = at.region;
-    let ceilings = space.ceilings;
-    let moved = region.reset_all(resets);
-    let first = nodes::node_of(0, moved, 0, ceilings) as u32;
+    let moved = at.region.reset_all(resets);
+    let first = nodes::node_of(0, moved, 0, space.ceilings) as u32;
     first + 65536 * corners_after(moved)
 }
 
@@ -206,7 +189,13 @@ fn image(images: &mut [u32; 8], space: Space, at: NodeRegion, resets: u8) -> u32
 }
 
 // Tries the step of a move that is allowed. The image is that of its reset byte: the target mode's nodes come so many blocks behind those of mode 0.
-fn along_move(words: &[u32], corners: &CornerGraph, stand: Stand, image: u32, e: usize) -> Option<Next>
+fn along_move(
+    words: &[u32],
+    corners: &CornerGraph,
+    stand: Stand,
+    image: u32,
+    e: usize,
+) -> Option<Next>
     requires { AlongReady corners.now.table.now.bytes corners.now.space stand words.now image e }
     ensures { TriedOne corners.now.table.now.bytes corners.now.space stand words.now e result }
 {
@@ -254,7 +243,11 @@ fn by_delay(words: &[u32], corners: &CornerGraph, at: NodeRegion, stand: Stand) 
     }
     let to = nodes::node_of(at.mode, delayed, 0, corners.space.ceilings);
     let rate = corners.table.rate(at.mode) as u32;
-    found(DELAY, to, led_by_delay(words, stand, delayed, to, at.region.top(), rate))
+    found(
+        DELAY,
+        to,
+        led_by_delay(words, stand, delayed, to, at.region.top(), rate),
+    )
 }
 
 // Tries to linger. Only where r0 is empty, so that a delay takes a corner away, does it lead on, from corner 0 to the last.
@@ -271,10 +264,15 @@ fn by_linger(words: &[u32], table: &Table, at: NodeRegion, stand: Stand) -> Opti
         return None;
     }
     let rate = table.rate(at.mode) as u32;
-    found(LINGER, at.first, lead(words, stand, 0, 0, at.first, last, rate))
+    found(
+        LINGER,
+        at.first,
+        lead(words, stand, 0, 0, at.first, last, rate),
+    )
 }
 
-// The step of the least byte, from the walk's on, along which a tight edge leads on.
+// The step of the least byte, from the walk's on, along which a tight edge leads on. By `or_else` nothing would be known of what a closure finds that
+// has `corners`.
 pub fn next_step(words: &[u32], corners: &CornerGraph, stand: Stand) -> Option<Next>
     requires { StandReady corners.now.table.now.bytes corners.now.rules.now corners.now.space stand words.now }
     ensures { NextStep corners.now.table.now.bytes corners.now.space stand words.now result }

@@ -1,16 +1,11 @@
 -- `steps::by_delay` meets its contract.
 -- Assumes nothing.
 use native.Mathlib.Omega.{arith}
-use Rattle.space.specs.Space.{place_at}
-use Rattle.space.proofs.Settings.{place-mode}
 use Rattle.steps.proofs.Standing.{stand-setting}
-use Rattle.steps.proofs.Trying.{one-before, one-silent, one_found}
+use Rattle.steps.proofs.Trying.{one-silent, one_tried}
 use Rattle.space.proofs.Delayed.{delay-ready, delayed-ready}
 use Rattle.steps.proofs.Delaying.{halves-asked, delay-shut, led-asked, tried-delay}
 use Rattle.steps.proofs.by_delay.Goals as goal
-
-pub returns-then-stand-gt-DELAY : goal.returns-then-stand-gt-DELAY
-returns-then-stand-gt-DELAY c = one-before c.if-stand-gt-DELAY.true c.nowhere.ensures
 
 pub delay-delayed-requires : goal.delay-delayed-requires
 delay-delayed-requires c =
@@ -20,31 +15,24 @@ pub halves-requires : goal.halves-requires
 halves-requires c =
     halves-asked c.requires.0 c.requires.1 c.delay-delayed.result c.delay-delayed.ensures
 
-pub all_inside-requires : goal.all_inside-requires
-all_inside-requires c =
-    let w = c.requires.0 in
-    (c.requires.1.size, omega (arith, place-mode c.args.table.now.bytes w.ready.setting.is-table (place_at c.args.at) w.here.corner.place))
-
 pub returns-then-not-all_inside : goal.returns-then-not-all_inside
 returns-then-not-all_inside c =
     one-silent
     (delay-shut c.requires.0 c.requires.1 c.delay-delayed.result c.delay-delayed.ensures c.halves.ensures c.all_inside.ensures
     (c.if-not-all_inside.true))
-    c.nowhere-then-not-all_inside.ensures
 
 pub node_of-to-requires : goal.node_of-to-requires
 node_of-to-requires c =
     delayed-ready (stand-setting c.requires.0 c.requires.1) c.requires.0.here.corner c.delay-delayed.result c.delay-delayed.ensures
 
-pub led_by_delay-set-requires : goal.led_by_delay-set-requires
-led_by_delay-set-requires c =
+pub led_by_delay-requires : goal.led_by_delay-requires
+led_by_delay-requires c =
     led-asked c.requires.0 c.requires.1 c.delay-delayed.result c.delay-delayed.ensures c.halves.ensures c.all_inside.ensures
-    (c.if-not-all_inside.false) c.node_of-to.result c.node_of-to.ensures c.rate.result c.rate.ensures
+    (c.if-not-all_inside.false) c.node_of-to.result c.node_of-to.ensures c.rate-rate.result c.rate-rate.ensures
 
 pub returns : goal.returns
 returns c =
-    let one =
-    tried-delay c.requires.0 c.requires.1 c.delay-delayed.result c.delay-delayed.ensures c.halves.ensures c.all_inside.ensures
-    (c.if-not-all_inside.false) c.node_of-to.result c.node_of-to.ensures c.rate.result c.rate.ensures
-    c.top.result c.top.ensures c.led_by_delay-set.result c.led_by_delay-set.ensures in
-    one_found (omega arith) c.if-stand-gt-DELAY.false one c.found.ensures
+    one_tried (omega arith) c.if-stand-gt-DELAY.false
+    (tried-delay c.requires.0 c.requires.1 c.delay-delayed.result c.delay-delayed.ensures c.halves.ensures c.all_inside.ensures
+    (c.if-not-all_inside.false) c.node_of-to.result c.node_of-to.ensures c.rate-rate.result c.rate-rate.ensures
+    c.top.result c.top.ensures c.led_by_delay.ensures c.found.ensures)

@@ -2,13 +2,10 @@
 -- Assumes nothing.
 use native.Mathlib.Omega.{arith}
 use Rattle.steps.proofs.Standing.{corners-ready}
-use Rattle.steps.proofs.Trying.{one-before, one-silent, one_found}
+use Rattle.steps.proofs.Trying.{one-silent, one_tried}
 use Rattle.space.proofs.Delayed.{delay-ready, delayed-valid, delayed-fewer}
 use Rattle.steps.proofs.LeadingWaits.{linger-idle, linger-ready, linger-tried}
 use Rattle.steps.proofs.by_linger.Goals as goal
-
-pub returns-then-stand-gt-LINGER : goal.returns-then-stand-gt-LINGER
-returns-then-stand-gt-LINGER c = λ s w. one-before c.if-stand-gt-LINGER.true c.nowhere.ensures
 
 pub delay-delayed-requires : goal.delay-delayed-requires
 delay-delayed-requires c =
@@ -23,18 +20,16 @@ top-requires c =
 pub returns-then-last-top : goal.returns-then-last-top
 returns-then-last-top c = λ s w.
     let fewer = delayed-fewer w.ready.setting w.here.corner c.delay-delayed.result c.delay-delayed.ensures in
-    one-silent (linger-idle w (λ e. omega (arith, fewer.0 e, c.if-last-top.true, c.top.ensures, c.top-last.ensures))) c.nowhere-then-last-top.ensures
+    one-silent (linger-idle w (λ e. omega (arith, fewer.0 e, c.if-last-top.true, c.top.ensures, c.top-last.ensures)))
 
-pub lead-set-requires : goal.lead-set-requires
-lead-set-requires c =
+pub lead-requires : goal.lead-requires
+lead-requires c =
     let w = c.requires.1 in
-    (corners-ready w, linger-ready w c.top-last.result c.rate.result c.top-last.ensures c.rate.ensures)
+    (corners-ready w, linger-ready w c.top-last.result c.rate-rate.result c.top-last.ensures c.rate-rate.ensures)
 
 pub returns : goal.returns
 returns c = λ s w.
     let fewer = delayed-fewer w.ready.setting w.here.corner c.delay-delayed.result c.delay-delayed.ensures in
     let empty = fewer.1 (omega (arith, c.if-last-top.false, c.top.ensures, c.top-last.ensures)) in
-    let one =
-    linger-tried w empty c.top-last.result c.rate.result c.lead-set.result c.top-last.ensures c.rate.ensures
-    c.lead-set.ensures in
-    one_found (omega arith) c.if-stand-gt-LINGER.false one c.found.ensures
+    one_tried (omega arith) c.if-stand-gt-LINGER.false
+    (linger-tried w empty c.top-last.result c.rate-rate.result c.lead.result c.top-last.ensures c.rate-rate.ensures c.lead.ensures c.found.ensures)

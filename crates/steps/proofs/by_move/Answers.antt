@@ -1,85 +1,75 @@
 -- `steps::by_move` meets its contract. The loop is at a move that is not passed over, and those before it lead nowhere.
 -- Assumes nothing.
+use mathlib.Core.Path.{sym, ◌∙◌}
 use native.Mathlib.Omega.{arith}
-use Rattle.space.specs.Moves.{NextFrom}
 use Rattle.space.specs.Space.{place_at}
 use Rattle.space.specs.Laws.Images.{images-none}
 use Rattle.space.proofs.Settings.{place-half-room}
-use Rattle.space.proofs.MovesFrom.{next-rises, next-ready, open_after}
-use Rattle.space.proofs.Imaging.{move-image}
-use Rattle.steps.proofs.Standing.{stand-setting}
-use Rattle.steps.proofs.Trying.{tried-none}
-use Rattle.steps.proofs.PassedMoves.{along-ready, silent-first, silent-next, move-found, moves-none}
-use Rattle.steps.proofs.by_move.Goals.{After-after}
+use Rattle.space.proofs.MovesFrom.{after-ready}
+use Rattle.rules.specs.Laws.Moves.{no-move, left-less}
+use Rattle.steps.proofs.PassedMoves.{TurnAt, turn-at, turn-next, along-ready, silent-first, silent-next, move-found, moves-none}
+use Rattle.steps.proofs.by_move.Goals.{In-Some}
 use Rattle.steps.proofs.by_move.Goals as goal
-
-pub returns-then-stand-ge-DELAY : goal.returns-then-stand-ge-DELAY
-returns-then-stand-ge-DELAY c = tried-none c.nowhere.ensures (λ k m. absurd (omega (arith, m.0, m.1, c.if-stand-ge-DELAY.true)))
 
 pub halves-halves-requires : goal.halves-halves-requires
 halves-halves-requires c =
     let w = c.requires.0 in
-    (w.here.corner.valid, place-half-room c.args.table.now.bytes w.ready.setting.is-table (place_at c.args.at) w.here.corner.place)
+    (w.here.corner.valid, place-half-room c.args.corners.now.table.now.bytes w.ready.setting.is-table (place_at c.args.at) w.here.corner.place)
 
-pub move_from-e-requires : goal.move_from-e-requires
-move_from-e-requires c =
-    let w = c.requires.0 in
-    (c.args.table.now.bytes, (w.ready.setting.is-table, c.requires.1, w.here.corner.place.in-modes, omega (arith, c.if-stand-ge-DELAY.false)))
-
-pub loop-e-init : goal.loop-e-init
-loop-e-init c =
+pub loop-next-init : goal.loop-next-init
+loop-next-init c =
     let w = c.requires.0 in
     let first =
-    c.move_from-e.ensures c.args.table.now.bytes
+    c.move_from-next.ensures c.args.corners.now.table.now.bytes
     (w.ready.setting.is-table, c.requires.1, w.here.corner.place.in-modes, omega (arith, c.if-stand-ge-DELAY.false)) in
-    (first.move, silent-first c.requires.0 c.requires.1 c.halves-halves.ensures first, images-none _)
+    record {
+      byte = first.0;
+      named = first.1;
+      move = first.2.move;
+      silent = silent-first c.requires.0 c.requires.1 c.halves-halves.ensures first.2;
+      images-are = images-none _;
+    }
 
-pub resets-requires : goal.resets-requires
-resets-requires c =
-    (c.requires.0.ready.setting.is-table, c.loop-e.invariant.0.there c.loop-e-test.true)
+-- The move in hand.
+turn : (c : In-Some) → TurnAt c.args.corners.now.table.now.bytes c.args.corners.now.rules.now c.args.corners.now.space c.args.at c.args.stand
+    c.args.words.now c.halves-halves.result c.in-Some.e
+turn c = turn-at c.loop-next.invariant c.in-Some.is
 
-pub image-by_resets-requires : goal.image-by_resets-requires
-image-by_resets-requires c =
-    let inv = c.loop-e.invariant in
-    (move-image (stand-setting c.requires.0 c.requires.1) c.requires.0.here.corner inv.0 c.loop-e-test.true c.resets.ensures, inv.2)
+pub along_move-step-requires : goal.along_move-step-requires
+along_move-step-requires c =
+    let here = turn (goal.at.along_move-step-requires c).In-Some in
+    along-ready c.requires.0 c.requires.1 c.halves-halves.ensures here.move here.some c.resets.ensures c.image-by_resets.ensures.is
 
-pub along_move-next-requires : goal.along_move-next-requires
-along_move-next-requires c =
-    along-ready c.requires.0 c.requires.1 c.halves-halves.ensures c.loop-e.invariant.0 c.loop-e-test.true c.resets.ensures
-    c.image-by_resets.ensures.is
+pub returns-then-is_some : goal.returns-then-is_some
+returns-then-is_some c =
+    let here = turn (goal.at.returns-then-is_some c).In-Some in
+    move-found here.silent here.some c.along_move-step.ensures (sym c.is_some.ensures ∙ c.if-is_some.true)
 
-pub returns-then-next-ne0 : goal.returns-then-next-ne0
-returns-then-next-ne0 c =
-    move-found c.loop-e.invariant.1 c.loop-e-test.true c.along_move-next.ensures c.if-next-ne0.true
+pub next_move-next-requires : goal.next_move-next-requires
+next_move-next-requires c =
+    let here = turn (goal.at.next_move-next-requires c).In-Some in
+    after-ready c.requires.1 (here.move.there here.some) c.after.ensures
 
-pub after-requires : goal.after-requires
-after-requires c =
-    (c.requires.1.size, c.loop-e-test.true)
+pub loop-next-smaller : goal.loop-next-smaller
+loop-next-smaller c =
+    let here = turn (goal.at.loop-next-smaller c).In-Some in
+    let after = turn-next here c.requires.1 c.after.ensures c.next_move-next.ensures in
+    rw c.in-Some.is (left-less here.some after.1 (omega (arith, after.2.low)))
 
-ready : (c : After-after) → NextFrom c.args.table.now.bytes c.args.rules.now c.after.result
-ready c =
-    next-ready c.requires.1 (c.loop-e.invariant.0.there c.loop-e-test.true) c.after.ensures
-
-pub next_move-e-requires : goal.next_move-e-requires
-next_move-e-requires c = (_, ready (goal.at.next_move-e-requires c).After-after)
-
-pub loop-e-smaller : goal.loop-e-smaller
-loop-e-smaller c =
-    let there = c.loop-e.invariant.0.there c.loop-e-test.true in
-    let found = c.next_move-e.ensures _ (ready (goal.at.loop-e-smaller c).After-after) in
-    omega (arith, c.loop-e-test.true, next-rises c.requires.1 there c.after.ensures, found.low)
-
-pub loop-e-preserved : goal.loop-e-preserved
-loop-e-preserved c =
-    let inv = c.loop-e.invariant in
-    let move = inv.0 in
-    let o =
-    open_after c.requires.1 (move.there c.loop-e-test.true) c.after.ensures (move.source c.loop-e-test.true)
-    (c.next_move-e.ensures _ (ready (goal.at.loop-e-preserved c).After-after)) in (
-      o.move,
-      silent-next c.requires.0 c.requires.1 c.halves-halves.ensures inv.1 c.along_move-next.ensures c.if-next-ne0.false o,
-      c.image-by_resets.ensures.images,
-    )
+pub loop-next-preserved : goal.loop-next-preserved
+loop-next-preserved c =
+    let here = turn (goal.at.loop-next-preserved c).In-Some in
+    let after = turn-next here c.requires.1 c.after.ensures c.next_move-next.ensures in record {
+      byte = after.0;
+      named = after.1;
+      move = after.2.move;
+      silent =
+          silent-next c.requires.0 c.requires.1 c.halves-halves.ensures here.silent c.along_move-step.ensures
+          (sym c.is_some.ensures ∙ c.if-is_some.false) after.2;
+      images-are = c.image-by_resets.ensures.images;
+    }
 
 pub returns : goal.returns
-returns c = moves-none c.loop-e.invariant.1 c.loop-e-test.false c.nowhere-2.ensures
+returns c =
+    let turn = c.loop-next.invariant in
+    moves-none turn.silent (no-move turn.named c.in_default.is)

@@ -1,4 +1,3 @@
 -- The laws that the functions' proofs cite.
 pub mod Counts
 pub mod Turns
-pub mod Entries

@@ -7,6 +7,7 @@ ghost use Rattle.table.specs.Meaning.{conditions_from};
 ghost use Rattle.table.specs.Held.{automaton_of};
 ghost use Rattle.closed.specs.Closed.{rows_closed};
 
+use conditions::comparison::Comparison;
 use table::{GUARD, INVARIANT, MODE_RECORDS, MODE_STRIDE, MOVE_RECORDS, MOVE_STRIDE, Table};
 
 // The condition bytes of a record.
@@ -36,14 +37,15 @@ fn row_closed(bytes: &[u8]) -> bool
     bytes.iter().take(ROW).all(|&byte| closed_byte(byte))
 }
 
-// Whether a condition byte is, or 0 for none. Code 1 is <, and 2, 3, 4 are ≤, = and ≥. Code 0, which no table has, is read as code 1.
+// Whether a condition byte is, or 0 for none.
 fn closed_byte(byte: u8) -> bool
     ensures { result ≡ all_closed (conditions_from 0 (byte ∷ [])) }
 {
-    match byte / 16 {
-        0 => byte == 0,
-        1 => false,
-        2..=4 => true,
-        _ => false,
+    if byte == 0 {
+        return true;
+    }
+    match Comparison::from(byte / 16) {
+        Comparison::Less | Comparison::Greater => false,
+        Comparison::AtMost | Comparison::Equal | Comparison::AtLeast => true,
     }
 }

@@ -34,7 +34,7 @@ fn place(c: u8, form: &mut [u8; FORM], at: usize)
     form[at + 1] = c % 16;
 }
 
-// The six places of a record.
+// The six places of a record. Each has two bytes, so the loop needs a condition's number.
 fn places(table: &[u8; SIZE], from: usize, form: &mut [u8; FORM], at: usize)
     requires { (from + 6 ≤ 904) × (at + 12 ≤ 1384) }
     ensures { Appends form.old at (places (take 6 (drop from table.now))) form.new (at + 12) }
@@ -69,7 +69,7 @@ fn move_form(table: &[u8; SIZE], from: usize, form: &mut [u8; FORM], at: usize)
     );
 }
 
-// The modes. The unit's core multiplies in 32 bits.
+// The modes. A record's number says where it stands, in the table and in the form; the unit's core multiplies in 32 bits.
 fn mode_forms(table: &[u8; SIZE], form: &mut [u8; FORM])
     ensures { Appends form.old 8 (flat (records_from mode_widened 8 16 (drop 8 table.now))) form.new 232 }
 {
@@ -84,7 +84,7 @@ fn mode_forms(table: &[u8; SIZE], form: &mut [u8; FORM])
     }
 }
 
-// The moves.
+// The moves, likewise.
 fn move_forms(table: &[u8; SIZE], form: &mut [u8; FORM])
     ensures { Appends form.old 232 (flat (records_from move_widened 12 64 (drop 136 table.now))) form.new 1384 }
 {

@@ -1,5 +1,5 @@
-// Single bytes of a table as they are written: where the conditions of a record stand, the bit map that says which of its fields are there, and one
-// function for each kind of byte, which puts it behind those that are there.
+// Single bytes of a table as they are written: where the conditions of a record stand, the bit map that says which of its fields are there, and a pen
+// with one method for each kind of byte, which puts it behind those that are there.
 #![tactic(auto)]
 
 ghost use Rattle.std.specs.Prelude.{◌≡◌, [], ◌∷◌, ◌++◌, ◌≤◌, ◌<◌, true, Ok};

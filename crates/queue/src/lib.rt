@@ -9,7 +9,8 @@ ghost use Rattle.queue.specs.Tournament.{none, winner};
 ghost use Rattle.queue.specs.Queue.{lows, slot_at, as_node, players, QueueRoom, RelaxReady, RelaxDone, LowerReady, LowerDone, SettleReady, SettleDone};
 ghost use Rattle.queue.specs.Playing.{key_in, Seat, Told, put, Place, GoneUp};
 
-// Nobody: what a slot holds if no node below it is pending.
+// Nobody: what a slot holds if no node below it is pending. The matches read, compare and store it as it stands in the slots: an option would be made of
+// each half and taken apart again.
 const NONE: u32 = 0xFFFF;
 
 // The charge of an unreached node.
@@ -108,7 +109,7 @@ fn winner(words: &[u32], nodes: u32, place: u32, settled: u64) -> u32
     }
 }
 
-// A node goes up from its leaf as far as it wins.
+// A node goes up from its leaf as far as it wins. No range goes over the places on the way up, each half of the one before.
 fn raise(words: &mut [u32], nodes: u32, node: u32)
     requires { QueueRoom nodes words.old × (node < nodes) }
     ensures { GoneUp nodes node words.old words.new }

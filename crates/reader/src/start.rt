@@ -4,19 +4,22 @@ ghost use Rattle.semantics.specs.Condition.{hold_at_zero};
 ghost use Rattle.table.specs.Meaning.{conditions_from};
 
 use crate::CONDITIONS;
+use conditions::comparison::Comparison;
 use table::{INVARIANT, MODE_RECORDS, SIZE};
 
 // Whether a condition byte, or 0 for none, holds of a timer at 0.
 fn holds_at_zero(condition: u8) -> bool
     ensures { result ≡ hold_at_zero (conditions_from 0 (condition ∷ [])) }
 {
-    let code = condition / 16;
+    if condition == 0 {
+        return true;
+    }
     let value = condition % 16;
-    match code {
-        0 | 2 => true,
-        1 => 0 < value,
-        3 | 4 => value == 0,
-        _ => false,
+    match Comparison::from(condition / 16) {
+        Comparison::Less => 0 < value,
+        Comparison::AtMost => true,
+        Comparison::Equal | Comparison::AtLeast => value == 0,
+        Comparison::Greater => false,
     }
 }
 

@@ -118,6 +118,7 @@ impl Region {
     }
 
     // Whether all points of the region have each timer at or below its ceiling. Ceilings past the last timer play no part.
+    // Three arrays go in step, so the loop goes by the number of the timer.
     pub fn within(self, ceilings: [u8; Region::MOST_TIMERS]) -> bool
         requires { Valid self }
         ensures { result ≡ within (take self.timers ceilings) (view self) }

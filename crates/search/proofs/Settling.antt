@@ -2,23 +2,23 @@
 -- Assumes nothing.
 use mathlib.Core.Path.{◌≡◌, refl, sym, subst, ◌∙◌}
 use mathlib.Core.Logic.{◌≢◌, ◌↔◌, ◌⊎◌, inl, inr}
+use mathlib.Core.Bool.{true, false, true≢false}
 use mathlib.Core.List.{List}
-use Prim.Native.Nat.{ℕ, ◌+◌, ◌*◌, ◌%◌, ◌<◌}
+use Prim.Native.Nat.{ℕ, ◌+◌, ◌<◌}
 use native.Mathlib.Decide.{dec_lt}
 use native.Mathlib.Omega.{arith}
-use Rattle.semantics.specs.Graph.Path.{Edge, Target, charge_at, steps_at}
+use Rattle.semantics.specs.Graph.Path.{Edge, Target}
 use Rattle.semantics.specs.Answers.Modes.{graph-goal}
 use Rattle.table.specs.Held.{automaton_of}
 use Rattle.regions.specs.declared.nodes.NodeRegion.{NodeRegion}
-use Rattle.queue.specs.Queue.{lows}
 use Rattle.queue.specs.Laws.Lows.{lows-charge, lows-steps}
 use Rattle.space.specs.declared.Space.{Space}
-use Rattle.space.specs.Space.{graph_of, start_of, Setting}
+use Rattle.space.specs.Space.{graph_of, Setting}
 use Rattle.space.specs.Laws.NodeRegion.{CornerAt}
 use Rattle.near.specs.declared.Cost.{Cost as CostHeld}
 use Rattle.search.specs.declared.edges.Source.{Source}
 use Rattle.search.specs.Exploring.{InHand, Relaxes}
-use Rattle.search.specs.Searches.{VisitReady, AnyEdge}
+use Rattle.search.specs.Searches.{VisitReady, AnyEdge, Visited}
 use Rattle.search.specs.Laws.Searchable.{size}
 use Rattle.search.specs.Edges.{IsMove, IsWait, IsAny, rooted_of, Holding, EdgesReady, EdgesDone}
 use Rattle.search.specs.Laws.FirstNode.{first-hand}
@@ -29,7 +29,7 @@ source_of z c = record { at = z; charge = c.charge; steps = c.steps + 1 }
 
 -- The node is next, and its region is known.
 module _ {t rs : List ℕ} {s : Space} (set : Setting t rs s) (goal : ℕ) {node : ℕ} {c : CostHeld} {ws : List ℕ} (k : VisitReady (rooted_of t goal) node c ws) where
-  there : node < s.nodes
+  pub there : node < s.nodes
   there = omega (arith, k.there, size set goal)
 
   pub steps-few : c.steps < 65536
@@ -81,3 +81,14 @@ module _ {t rs : List ℕ} {s : Space} (set : Setting t rs s) (goal : ℕ) {node
             rest = x.rest;
             kept = x.kept;
           }
+
+      pub visited-node : {ws' : List ℕ} → EdgesDone IsAny t s (source_of z c) ws ws' → Visited (rooted_of t goal) node ws ws' false
+      visited-node edges = record {
+        target = (λ q. absurd (true≢false (sym q)), λ x. absurd (away (is-target.1 x)));
+        same = λ q. absurd (true≢false (sym q));
+        relaxed = λ q. edges-visited edges;
+      }
+
+    -- It is: the search ends here.
+    pub visited-target : z.mode ≡ goal → Visited (rooted_of t goal) node ws ws true
+    visited-target is = record { target = (λ q. is-target.0 is, λ x. refl); same = λ q. refl; relaxed = λ q. absurd (true≢false q) }

@@ -37,14 +37,23 @@ pub fn room(table: &Table, lent: usize) -> Result<usize, Refusal>
 }
 
 // Finds the least charge and number of steps from the start to every corner that is as near as the goal. Gives the number of nodes whose words it used.
-pub fn search(words: &mut [u32], table: &Table, rules: &[u8; RULES], goal: usize) -> Result<usize, Refusal>
+pub fn search(
+    words: &mut [u32],
+    table: &Table,
+    rules: &[u8; RULES],
+    goal: usize,
+) -> Result<usize, Refusal>
     requires { IsRules table.now.bytes rules.now }
     ensures answer { told result ≡ answered (automaton_of table.now.bytes) (length words.old) }
     ensures words { words.new ≡ searched (automaton_of table.now.bytes) goal words.old }
 {
     let nodes = room(table, words.len())?;
     let space = space::space_of(table);
-    let corners = CornerGraph { space, table, rules };
+    let corners = CornerGraph {
+        space,
+        table,
+        rules,
+    };
     graph::search(words, &ToGoal { corners, goal });
     Ok(nodes)
 }

@@ -27,17 +27,17 @@ pub fn next_move(
     None
 }
 
-// The last of the prices 0 to `last` that is at most the bound. The first of them is 0.
+// The last of the prices 0 to `last` that is at most the bound. The prices rise from 0: the first one ends the loop, where one over a range would
+// compare numbers of 64 bits in each turn, too.
 pub fn last_at_most(prices: [u32; Region::MOST_CORNERS], last: usize, bound: usize) -> usize
     requires { (last < 4) × (get_or prices 0 0 ≡ 0) }
     ensures { LastAtMost prices last bound result }
 {
-    for i in (1..last + 1).rev() {
-        if prices[i] as usize <= bound {
-            return i;
-        }
+    let mut i = last;
+    while bound < prices[i] as usize {
+        i -= 1;
     }
-    0
+    i
 }
 
 // What resets do is found once for each of the eight reset bytes, and kept in an array. There this stands for a byte of which it was not found yet: no

@@ -66,8 +66,7 @@ pub fn halves(values: [u8; MOST_TIMERS]) -> [u8; MOST_TIMERS]
     requires { (i : ℕ) → get_or values i 0 < 128 }
     ensures { result ≡ map (λ v. 2 * v) values }
 {
-    // A `map` owes at each call that the value is below 128, and the check does not find that.
-    [2 * values[0], 2 * values[1], 2 * values[2]]
+    values.map(|v| 2 * v)
 }
 
 // A timer's value after the resets of a byte.

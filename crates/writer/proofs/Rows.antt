@@ -1,17 +1,16 @@
 -- Loops that write parts one after another.
 -- Assumes nothing.
 use Prim.Native.Nat.{ℕ, suc, ◌+◌, ◌*◌, ◌≤◌, ◌<◌}
-use native.Mathlib.Nat.{mul-zero, mul-add, mul-one}
+use native.Mathlib.Nat.{mul-add, mul-one}
 use native.Mathlib.Numerals.{add-one}
 use native.Mathlib.Omega.{arith}
-use mathlib.Core.Path.{◌≡◌, refl, sym, ap, ◌∙◌}
+use mathlib.Core.Path.{◌≡◌, sym, ap, ◌∙◌}
 use mathlib.Core.List.{List, [], ◌∷◌, ◌++◌}
 use borrow.Author.Tests.{eq-eqb, ne_eqb}
 use Rattle.std.specs.Prelude.{Result, Ok, Err, IsErrAnd}
 use Rattle.std.proofs.lemmas.Result.{err_from_is_err_and}
 use lib.ListN.{length, get_or, take, drop}
 use lib.Seq.{take-suc, split_at, take_all}
-use Rattle.std.proofs.Common.{append-nil}
 use Rattle.table.specs.declared.refusals.Refusal.{Refusal}
 use Rattle.parts.specs.declared.pens.Pen.{Pen}
 use Rattle.parts.specs.Part.{Part, ◌then◌, each}
@@ -24,9 +23,6 @@ module _ {A : Type 0} (most : ℕ) (part : A → Part) (l : List A) where
   pub record Row (old new : Pen) (i : ℕ) : Type 0 where
     pub few : i ≤ length l
     pub puts : Puts (most * i) (each part (take i l)) old (Ok tt) new
-
-  pub row-none : (pen : Pen) → Row pen pen 0
-  row-none pen = record { few = omega arith; puts = record { fault = refl; few = omega (arith, mul-zero most); put = sym (append-nil (take pen.at pen.bytes)) } }
 
   module _ {old pen new : Pen} {i : ℕ} {a : A} (d : A) where
     -- One more.

@@ -114,7 +114,7 @@ fn move_record(
     resets(reset, high, timers, pen)
 }
 
-// The mode records, one after another. The unit's core multiplies in 32 bits.
+// The mode records, one after another. A record's number says where the form has it; the unit's core multiplies in 32 bits.
 fn mode_records(form: &[u8; FORM], timers: u8, modes: u8, pen: &mut Pen) -> Result<(), Refusal>
     requires { (timers ≤ 3) × (modes ≤ 16) × (pen.old.at + 144 ≤ 919) }
     ensures { Puts (9 * modes) (each (mode_record timers) (map compact_mode (records_from mode_said 14 modes (drop 8 form.now)))) pen.old result pen.new }
@@ -126,7 +126,7 @@ fn mode_records(form: &[u8; FORM], timers: u8, modes: u8, pen: &mut Pen) -> Resu
     Ok(())
 }
 
-// The move records, one after another.
+// The move records, likewise.
 fn move_records(
     form: &[u8; FORM],
     timers: u8,

@@ -1,14 +1,15 @@
 -- How what a function writes follows from what the functions that it calls write.
 -- Assumes nothing.
-use Rattle.std.specs.Prelude.{ℕ, ◌+◌, ◌*◌, ◌^◌, ◌≤◌, ◌<◌, ◌≡◌, refl, Bool, true, false, cond, List, [], ◌∷◌, ◌++◌, eqb, length, take, drop, Result, Ok, Err, IsErrAnd}
-use Rattle.std.proofs.Common.{arith, sym, ap, ◌∙◌, append_assoc, append-nil, eq-eqb, ne_eqb, eqb-true, lt-ltb, le-ltb, length-append, pow_mono, pow_pos, length-take-le, take_at}
+use Rattle.std.specs.Prelude.{ℕ, ◌+◌, ◌*◌, ◌^◌, ◌≤◌, ◌<◌, ◌≡◌, refl, Bool, true, false, cond, ◌&&◌, ◌/◌, ◌%◌, List, [], ◌∷◌, ◌++◌, eqb, ltb, length, take, drop, set, Result, Ok, Err, IsErrAnd}
+use Rattle.std.proofs.Common.{add-zero, add-one, take-append-drop, arith, sym, ap, ◌∙◌, append_assoc, append-nil, eq-eqb, ne_eqb, eqb-true, lt-ltb, le-ltb, length-append, pow_mono, pow_pos, length-take-le, take_at}
+use Rattle.std.proofs.lemmas.List.{set_split}
 use Rattle.std.proofs.lemmas.Result.{err_from_is_err_and}
 use Rattle.table.specs.declared.refusals.Refusal.{Refusal}
 use Rattle.table.specs.declared.refusals.Refusal.TheVariants.{NoByteLeft, OutOfRange, AbsentTimer, BadCode, NoSuchMode, BytesLeftOver, StartFails, TooManyNodes, TooFewWords, RouteTooLong, DestinationTooShort, NotClosed}
 use Rattle.table.specs.Refusals.{number}
 use Rattle.parts.specs.declared.pens.Pen.{Pen}
 use Rattle.parts.specs.Part.{Part, nothing, checked, unless_zero, ◌then◌, each}
-use Rattle.parts.specs.Format.{bit_of, amount_byte, reset_bits, reset_byte}
+use Rattle.parts.specs.Format.{bit_of, map_byte, amount_byte, reset_bits, reset_byte}
 use Rattle.parts.specs.Overlays.{Overlays}
 use Rattle.parts.specs.Puts.{Puts}
 
@@ -52,13 +53,38 @@ some-number RouteTooLong h = omega arith
 some-number DestinationTooShort h = omega arith
 some-number NotClosed h = omega arith
 
--- A byte that is left out where it is 0: at most one.
+-- One byte: refused, or put.
+module _ (passes : Bool) (b : ℕ) {pen : Pen} where
+  pub byte-refused : (e : Refusal) → passes ≡ false → Overlays (checked passes (number e) b) pen (Err e) pen
+  byte-refused e k = let some = ne_eqb (number e) 0 (some-number e) in rw k (record { fault = refl; place = rw some; array = rw some })
+
+  pub byte_put : {pen' : Pen} (k : ℕ) → passes ≡ true → pen.at < length pen.bytes → pen'.bytes ≡ set pen.bytes pen.at b → pen'.at ≡ pen.at + 1 →
+      Overlays (checked passes k b) pen (Ok tt) pen'
+  byte_put k e h bytes-are at-is =
+      rw e (record { fault = refl; place = at-is; array = bytes-are ∙ rw (add-one pen.at) (set_split pen.bytes pen.at b h) })
+
+-- One that is left out where it is 0: it has at most one byte.
+module _ (passes : Bool) (k b : ℕ) {pen : Pen} where
+  pub zero_left : b ≡ 0 → Overlays (unless_zero passes k b) pen (Ok tt) pen
+  zero_left e =
+      rw (eq-eqb b 0 e)
+      (record { fault = refl; place = sym (add-zero pen.at); array = rw (add-zero pen.at) (sym (take-append-drop pen.at pen.bytes)) })
+
+  pub not-zero : {pen' : Pen} {r : Result (Unit {0}) Refusal} → (b ≡ 0 → ⊥) → Overlays (checked passes k b) pen r pen' →
+      Overlays (unless_zero passes k b) pen r pen'
+  not-zero z v = rw (ne_eqb b 0 z) v
+
 pub unless-short : (passes : Bool) (k b : ℕ) → length (unless_zero passes k b).bytes ≤ 1
 unless-short passes k b = go (eqb b 0)
   where
     go : (t : Bool) → length (cond t nothing (checked passes k b)).bytes ≤ 1
     go true = omega arith
     go false = omega arith
+
+-- A bit map.
+pub map-overlays : {limit : ℕ} {pen pen' : Pen} {r : Result (Unit {0}) Refusal} (n map : ℕ) → limit ≡ 2 ^ n →
+    Overlays (checked (ltb (map / 2 % 8) limit && ltb (map / 16 % 8) limit) 3 map) pen r pen' → Overlays (map_byte n map) pen r pen'
+map-overlays n map e v = rw (← e) v
 
 -- What was put by a function that writes a part of at most one byte where there is room for one.
 module _ {p : Part} {pen pen' : Pen} where
@@ -94,19 +120,19 @@ module _ {pen pen' pen'' : Pen} {p q : Part} where
   pub byte_then : {b : ℕ} {r : Result (Unit {0}) Refusal} → Overlays p pen (Ok tt) pen' → length p.bytes ≤ 1 → Puts b q pen' r pen'' → Puts (1 + b) (p then q) pen r pen''
   byte_then v short w = puts_then (overlays-puts v short) w
 
+-- A part that was refused refuses the whole; and so does a byte. The refusal is passed up by a `?`.
+refused-first : {b : ℕ} {pen pen'' : Pen} {s : Result (Unit {0}) Refusal} (p q : Part) (e : Refusal) → number e ≡ p.fault → IsErrAnd s (λ x. x ≡ e) →
+    Puts b (p then q) pen s pen''
+refused-first {s = s} p q e k up =
+    let passed = err_from_is_err_and s up in
+    rw (passed.1, passed.2) (record { fault = k ∙ rw (ne_eqb p.fault 0 (λ z. some-number e (k ∙ z))); few = tt; put = tt })
+
 module _ {pen pen' pen'' : Pen} {p : Part} {e : Refusal} {s : Result (Unit {0}) Refusal} {b : ℕ} (q : Part) where
-  -- A part that was refused refuses the whole; and so does a byte, by a `?`.
   pub puts-fault : {a : ℕ} → Puts a p pen (Err e) pen' → IsErrAnd s (λ x. x ≡ e) → Puts b (p then q) pen s pen''
-  puts-fault v up =
-      let passed = err_from_is_err_and s up in
-      rw (passed.1, passed.2)
-      (record { fault = v.fault ∙ rw (ne_eqb p.fault 0 (λ z. some-number e (v.fault ∙ z))); few = tt; put = tt })
+  puts-fault v = refused-first p q e v.fault
 
   pub byte-fault : Overlays p pen (Err e) pen' → IsErrAnd s (λ x. x ≡ e) → Puts b (p then q) pen s pen''
-  byte-fault v up =
-      let passed = err_from_is_err_and s up in
-      rw (passed.1, passed.2)
-      (record { fault = v.fault ∙ rw (ne_eqb p.fault 0 (λ z. some-number e (v.fault ∙ z))); few = tt; put = tt })
+  byte-fault v = refused-first p q e v.fault
 
 -- At most so many bytes are at most more.
 pub puts-wide : {a b : ℕ} {r : Result (Unit {0}) Refusal} {p : Part} {pen pen' : Pen} → Puts a p pen r pen' → a ≤ b → Puts b p pen r pen'

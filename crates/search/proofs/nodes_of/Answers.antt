@@ -1,5 +1,5 @@
 -- `search::nodes_of` meets its contract. Assumes nothing.
-use Rattle.std.proofs.Common.{sym, ap, ◌∙◌}
+use Rattle.std.proofs.Common.{ap, ◌∙◌}
 use Rattle.table.specs.Held.{automaton_of}
 use Rattle.search.specs.Outcome.{told}
 use Rattle.search.specs.Laws.Answers.{nodes-counted-or}

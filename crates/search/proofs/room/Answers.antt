@@ -1,10 +1,9 @@
 -- `search::room` meets its contract. Assumes nothing.
-use Rattle.std.proofs.Common.{sym, ap, ◌∙◌}
+use Rattle.std.proofs.Common.{sym, ◌∙◌}
 use Rattle.std.proofs.lemmas.Result.{err_from_is_err_and}
 use native.Mathlib.Omega.{arith}
 use Rattle.table.specs.Refusals.{number}
 use Rattle.table.specs.Held.{automaton_of}
-use Rattle.search.specs.Outcome.{told}
 use Rattle.search.specs.Laws.Answers.{Counts, nodes-counted, answer-many, answer-short, answer-nodes}
 use Rattle.search.proofs.room.Goals.{In_ok-nodes}
 use Rattle.search.proofs.room.Goals as goal

@@ -1,46 +1,48 @@
 -- `search::search` meets its contract. Assumes nothing.
-use Rattle.search.proofs.search.Goals.{After-start_node}
-use mathlib.Core.Path.{sym, ◌∙◌}
-use lib.ListN.{length}
+use mathlib.Core.Path.{◌≡◌, sym, ap, ◌∙◌}
+use mathlib.Core.List.{◌++◌}
+use Prim.Native.Nat.{ℕ, ◌*◌}
+use native.Mathlib.Omega.{arith}
+use lib.ListN.{length, drop}
+use Rattle.semantics.proofs.Answers.Graph.{graph-nodes}
+use Rattle.semantics.specs.Graph.Near.{near_words}
+use Rattle.table.specs.Refusals.{number}
 use Rattle.table.specs.Held.{automaton_of}
-use Rattle.search.specs.Laws.Answers.{answer-fits, searched-refused, searched-nodes}
-use Rattle.search.proofs.Searching.{Searching, seeding, finding, keeping, near-found}
+use Rattle.space.specs.Space.{graph_of, start_of}
+use Rattle.space.specs.Laws.Shares.{table-setting}
+use Rattle.search.specs.Laws.Answers.{Fits, answer-fits, searched-refused, searched-nodes}
+use Rattle.search.proofs.search.Goals.{In_ok-nodes}
 use Rattle.search.proofs.search.Goals as goal
 
--- A search is made.
-searching : (c : After-start_node) → Searching c.args.table.now.bytes c.args.rules.now c.args.words.now c.in-Nodes.n c.space_of-space.result c.start_node.result
-searching c = record {
-  is-table = c.requires.0;
-  is-rules = c.requires.1;
-  fits = answer-fits (automaton_of c.args.table.now.bytes) (length c.args.words.now) c.in-Nodes.n (sym c.room-answer.ensures ∙ c.in-Nodes.is);
-  is-space = c.space_of-space.ensures;
-  begins = c.start_node.ensures c.args.table.now.bytes c.requires.0 c.space_of-space.ensures;
-}
+-- The nodes' words were lent.
+fits : (c : In_ok-nodes) → Fits (automaton_of c.args.table.now.bytes) (length c.args.words.now) c.in_ok-nodes.nodes
+fits c = answer-fits (automaton_of c.args.table.now.bytes) (length c.args.words.now) c.in_ok-nodes.nodes (sym c.in_ok-nodes.ensures)
 
-pub returns-in_default : goal.returns-in_default
-returns-in_default c =
-    let e = c.room-answer.ensures in record {
-      answer = e;
-      words = searched-refused (automaton_of c.args.table.now.bytes) c.args.goal c.args.words.now c.in_default.field-0 (sym e ∙ c.in_default.is);
+pub returns-in_err-nodes-clause-words : goal.returns-in_err-nodes-clause-words
+returns-in_err-nodes-clause-words c =
+    searched-refused (automaton_of c.args.table.now.bytes) c.args.goal c.args.words.now (number c.in_err-nodes.field-0.0) (sym c.in_err-nodes.ensures)
+
+pub invariant_of-corners : goal.invariant_of-corners
+invariant_of-corners c =
+    let f = fits (goal.at.invariant_of-corners c).In_ok-nodes in
+    record {
+      setting = table-setting c.args.table.now.bytes c.args.table.now.is_table c.requires c.space_of-space.ensures (omega (arith, f.counted, f.few));
     }
 
-pub seed-requires : goal.seed-requires
-seed-requires c = seeding (searching c)
-
-pub settle_all-best-requires : goal.settle_all-best-requires
-settle_all-best-requires c =
-    finding (searching (goal.at.settle_all-best-requires c).After-start_node) c.args.goal c.seed.new.words c.seed.ensures
-
-pub keep_near-requires : goal.keep_near-requires
-keep_near-requires c =
-    keeping (searching (goal.at.keep_near-requires c).After-start_node) c.args.goal c.seed.new.words c.seed.ensures c.settle_all-best.result c.settle_all-best.new.words
-    c.settle_all-best.ensures
+pub search-requires : goal.search-requires
+search-requires c =
+    let f = fits (goal.at.search-requires c).In_ok-nodes in
+    omega (arith, f.counted, f.room, graph-nodes (automaton_of c.args.table.now.bytes) c.args.goal)
 
 pub returns : goal.returns
 returns c =
-    let e = sym c.room-answer.ensures ∙ c.in-Nodes.is in record {
-      answer = sym e;
-      words = near-found (searching (goal.at.returns c).After-start_node) c.args.goal c.seed.new.words c.seed.ensures c.settle_all-best.result
-          c.settle_all-best.new.words c.settle_all-best.ensures c.keep_near.new.words c.keep_near.ensures
-          ∙ searched-nodes (automaton_of c.args.table.now.bytes) c.args.goal c.args.words.now c.in-Nodes.n e;
+    let a = automaton_of c.args.table.now.bytes in
+    let ws = c.args.words.now in
+    let f = fits (goal.at.returns c).In_ok-nodes in
+    let counted : (graph_of c.args.table.now.bytes c.args.goal).nodes ≡ c.in_ok-nodes.nodes = graph-nodes a c.args.goal ∙ sym f.counted in
+    record {
+      answer = c.in_ok-nodes.ensures;
+      words = c.search.ensures.words
+          ∙ ap (λ (n : ℕ). near_words (graph_of c.args.table.now.bytes c.args.goal) (start_of c.args.table.now.bytes) ++ drop (2 * n) ws) counted
+          ∙ searched-nodes a c.args.goal ws c.in_ok-nodes.nodes (sym c.in_ok-nodes.ensures);
     }

@@ -1,11 +1,10 @@
 -- What the words of a search say of the goal: the least cost of its nodes is that of the route, and the entries are the least costs from the start
 -- as far as they are as near as that.
 -- Assumes nothing.
-use Rattle.std.specs.Prelude.{Option, Some, None, ◌≡◌, refl, Bool, true, false, cond, ◌≢◌, ◌⊎◌, ℕ, zero, suc, ◌+◌, ◌*◌, ◌/◌, ◌≤◌, ◌<◌, eqb, length, get_or, drop, replicate}
-use Rattle.std.proofs.Common.{sym, ◌∙◌, inl, inr, zero-add, arith, eqb-true, length-append, length-drop, drop_at}
+use Rattle.std.specs.Prelude.{Option, Some, None, ◌≡◌, refl, ◌⊎◌, ℕ, zero, suc, ◌+◌, ◌*◌, ◌/◌, ◌≤◌, ◌<◌, length, get_or, drop, replicate}
+use Rattle.std.proofs.Common.{sym, subst, ◌∙◌, inl, inr, zero-add, arith, length-append, length-drop, drop_at}
 use Rattle.std.proofs.Math.Path.{ap}
 use mathlib.Core.List.{List, ◌++◌}
-use Rattle.std.proofs.lemmas.Bool.{eqb-false}
 use Rattle.semantics.specs.Distinct.{distinct}
 use Rattle.semantics.specs.Answer.{count_from}
 use Rattle.semantics.specs.Corners.Corner.{flat_map}
@@ -81,11 +80,11 @@ module _ (t : List ℕ) (ok : IsTable t) (goal nodes modes : ℕ) (counted : nod
           o.0,
           at.0,
           at.1,
-          rw same at (table-holds ws o.0 (cost r.charge r.steps) (record { known = λ z. best.known (sym o.2 ∙ z); charge = o.2; steps = o.3 })),
+          subst (λ (b : Cost). table ws o.0 ≡ reached b) same (table-holds ws o.0 (cost r.charge r.steps) (record { known = λ z. best.known (sym o.2 ∙ z); charge = o.2; steps = o.3 })),
         );
-    least = λ c q a v h x e.
+    least = λ c q v a h x e.
         let same : cost r.charge r.steps ≡ c = cc in
-        rw same at (less a v (reached-words ws v a e).charge (reached-words ws v a e).steps (best.least v (target-in v h x)));
+        subst (λ (b : Cost). b ≼ a) same (less a v (reached-words ws v a e).charge (reached-words ws v a e).steps (best.least v (target-in v h x)));
   }
     where
       less :

@@ -1,14 +1,9 @@
 -- `writer::records::resets` meets its contract. Assumes nothing.
 use Prim.Native.Nat.{◌+◌, ◌*◌}
 use mathlib.Core.Bool.{true}
-use Rattle.parts.specs.Theorems.Putting.{unless-short, overlays-puts, puts_then, resets-refused, reset-put}
+use Rattle.parts.specs.Theorems.Putting.{unless-short, overlays-puts, puts_then, reset-put}
 use native.Mathlib.Omega.{arith}
 use Rattle.writer.proofs.records.resets.Goals as goal
-
-pub returns-then-names-resets : goal.returns-then-names-resets
-returns-then-names-resets c =
-    let a = c.args in
-    resets-refused a.timers a.resets a.high c.names.ensures _ (omega arith)
 
 pub returns : goal.returns
 returns c =

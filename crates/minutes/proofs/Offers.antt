@@ -5,32 +5,23 @@ use mathlib.Core.List.{List}
 use Prim.Native.Nat.{ℕ, suc, ◌+◌, ◌*◌, ◌≤◌, ◌<◌}
 use native.Mathlib.Nat.{mul-le-mul_right}
 use native.Mathlib.Omega.{arith}
-use lib.ListN.{length, get_or}
-use Rattle.semantics.specs.Graph.Path.{Edge, Leaves, WeightsWithin, infinity, charge_at, steps_at}
+use lib.ListN.{length}
+use Rattle.semantics.specs.Graph.Path.{Edge, Leaves, infinity, charge_at, steps_at}
 use Rattle.semantics.specs.Graph.Near.{turned}
 use Rattle.semantics.specs.Paths.Loops.{path-charge}
 use Rattle.semantics.specs.Paths.Turned.{turned-nodes, turned-closed, turned-light}
 use Rattle.semantics.specs.Timetables.States.{state_at-state}
-use Rattle.semantics.specs.Timetables.Edges.{minute-closed, minute-weights}
+use Rattle.semantics.specs.Timetables.Edges.{minute-closed}
 use Rattle.table.specs.Fields.{most_price}
 use Rattle.table.specs.Held.{automaton_of}
-use Rattle.table.specs.Theorems.Access.{table-proper, amounts-within}
+use Rattle.table.specs.Theorems.Access.{table-proper}
 use Rattle.queue.specs.Queue.{lows, RelaxReady, RelaxDone}
 use Rattle.search.specs.Exploring.{InHand, Relaxes, hand-inside, hand-entry, hand-ready, tried-relaxes}
 use Rattle.states.specs.declared.States.{States}
 use Rattle.minutes.specs.Edges.{Setting, graph_of, rooted_of, state_of}
-use Rattle.states.specs.Laws.Bounds.{ceiling-few}
+use Rattle.minutes.specs.Laws.Searchable.{pairs-light}
 
 module _ {t rs : List ℕ} {s : States} (z : Setting t rs s) (goal : ℕ) where
-  -- A pair is charged at most sixteen times the greatest rate or price.
-  pub pairs-light : WeightsWithin (graph_of t goal) (16 * most_price)
-  pairs-light v e h l =
-      omega (
-        arith,
-        minute-weights (automaton_of t) (table-proper t z.is-table) goal most_price (amounts-within t z.is-table) v e h l,
-        mul-le-mul_right {m = get_or (automaton_of t).ceilings 0 0 + 1} {n = 16} most_price (omega (arith, ceiling-few t z.is-table 0)),
-      )
-
   module _ {u : ℕ} {ws : List ℕ} (h : InHand (rooted_of t goal) s.count u ws) where
     hand-pairs : steps_at (lows s.count ws) u < s.count
     hand-pairs = omega (arith, h.sized, h.settling.costs.few u _ (hand-inside h) (hand-entry h))
@@ -42,7 +33,7 @@ module _ {t rs : List ℕ} {s : States} (z : Setting t rs s) (goal : ℕ) where
         let w = 16 * most_price in
         let way = h.settling.costs.attained u _ (hand-inside h) (hand-entry h) in
         let most : charge_at (lows s.count ws) u ≤ steps_at (lows s.count ws) u * (16 * most_price) =
-        rw (way.charged, way.counted) at (path-charge (turned g 0) (turned-closed g 0) w (turned-light g 0 w pairs-light) u way.path (rw (turned-nodes g 0) (hand-inside h)) way.is-path) in
+        rw (way.charged, way.counted) at (path-charge (turned g 0) (turned-closed g 0) w (turned-light g 0 w (pairs-light z goal)) u way.path (rw (turned-nodes g 0) (hand-inside h)) way.is-path) in
         let few : steps_at (lows s.count ws) u ≤ 4095 = omega (arith, hand-pairs, z.few) in
         omega (arith, most, mul-le-mul_right (16 * most_price) few)
 
@@ -53,7 +44,7 @@ module _ {t rs : List ℕ} {s : States} (z : Setting t rs s) (goal : ℕ) where
           omega (arith, minute-closed (automaton_of t) (table-proper t z.is-table) goal u e (hand-inside h) leaves, sized)
 
       edge-room : e.weight + charge_at (lows s.count ws) u < infinity
-      edge-room = omega (arith, hand-sum, pairs-light u e (hand-inside h) leaves)
+      edge-room = omega (arith, hand-sum, pairs-light z goal u e (hand-inside h) leaves)
 
       module _ (charge pairs : ℕ) (charge-is : charge ≡ e.weight + charge_at (lows s.count ws) u)
           (pairs-are : pairs ≡ suc (steps_at (lows s.count ws) u)) (short : pairs < s.count) where

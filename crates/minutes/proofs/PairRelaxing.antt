@@ -92,13 +92,15 @@ module _ {t rs : List ℕ} {s : States} {x : Source} {ws : List ℕ} (p : PairsR
         at e b (no n) = inr (omega arith, omega arith)
 
     -- Beyond the ceiling of timer 0 there are no more.
-    pub pairs-all : get_or s.ceilings 0 0 - get_or x.at.values 0 0 < d → PairsDone AnyPair t s x ws ws'
-    pairs-all past goal u h =
-        relaxes-then AnyPair (done goal u h)
-        (relaxes-none (done goal u h).hand (λ e. ⊥) (λ e l b. b))
+    pub pairs-all :
+        {ws'' : List ℕ} → PairsDone (OfMinute d) t s x ws' ws'' → get_or s.ceilings 0 0 - get_or x.at.values 0 0 ≤ d → PairsDone AnyPair t s x ws ws''
+    pairs-all more past goal u h =
+        let last = pairs-more more goal u h in
+        relaxes-then AnyPair last
+        (relaxes-none last.hand (λ e. ⊥) (λ e l b. b))
         (λ e l b. inl (below e l))
       where
-        below : (e : Edge) → Leaves (graph_of t goal) u e → e.label < 64 * d
+        below : (e : Edge) → Leaves (graph_of t goal) u e → e.label < 64 * (d + 1)
         below e l =
             let a = automaton_of t in
             let ok = table-proper t p.setting.is-table in

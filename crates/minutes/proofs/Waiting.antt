@@ -4,7 +4,7 @@ use mathlib.Core.Path.{◌≡◌, refl, ap}
 use mathlib.Core.Bool.{Bool, true}
 use mathlib.Core.Logic.{◌↔◌}
 use mathlib.Core.List.{List, [], ◌∷◌, map}
-use Prim.Native.Nat.{ℕ, zero, suc, ◌+◌, ◌*◌, ◌≤◌, ◌<◌}
+use Prim.Native.Nat.{ℕ, zero, suc, ◌+◌, ◌*◌, ◌≤◌}
 use native.Mathlib.Omega.{arith}
 use lib.ListN.{get_or}
 use Rattle.semantics.specs.Automaton.{mode_at}
@@ -28,12 +28,6 @@ later-most d (suc n) (x ∷ l) zero = omega arith
 later-most d (suc n) (x ∷ l) (suc i) = later-most d n l i
 
 module _ {t : List ℕ} {s : States} {x : Source} {d : ℕ} (w : WaitReady t s x d) where
-  pub wait-timers : s.timers ≤ 3
-  wait-timers = omega (arith, w.is-states.timers-are, timers-few t w.is-table)
-
-  pub wait-fits : (rate : ℕ) → rate ≡ (mode_at (automaton_of t) x.at.mode).rate → d * rate + x.charge < 0xFFFF_FFFF
-  wait-fits rate e = rw e w.sum
-
   pub wait-done :
       (rate : ℕ) → rate ≡ (mode_at (automaton_of t) x.at.mode).rate → (later : List ℕ) → later ≡ map_to (λ v. v + d) s.timers x.at.values
       → WaitDone t x d (record { at = record { mode = x.at.mode; values = later }; charge = d * rate + x.charge; pairs = x.pairs })

@@ -6,13 +6,12 @@ use Rattle.semantics.specs.Run.{State, wait, after}
 use Rattle.semantics.specs.Timetable.{allowed}
 use Rattle.semantics.specs.Graph.Path.{Edge, Graph, charge_at, steps_at}
 use Rattle.semantics.specs.Graph.MinuteGraph.{state_at, minute_graph}
-use Rattle.table.specs.Held.{automaton_of, IsTable}
-use Rattle.rules.specs.Rules.{IsRules}
+use Rattle.table.specs.Held.{automaton_of}
 use Rattle.queue.specs.Queue.{lows}
 use Rattle.search.specs.Exploring.{Rooted, InHand, Relaxes}
 use Rattle.states.specs.declared.States.{States}
 use Rattle.minutes.specs.declared.waits.Source.{Source}
-use Rattle.states.specs.States.{IsStates, StandsAt}
+use Rattle.states.specs.States.{StandsAt}
 use Rattle.minutes.specs.declared.graph.MinuteGraph.{MinuteGraph}
 use Rattle.minutes.specs.Waits.{Room}
 pub use Rattle.minutes.specs.Settings.{Setting}

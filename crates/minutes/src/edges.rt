@@ -40,7 +40,11 @@ fn relax_moves(words: &mut [u32], minutes: &MinuteGraph, from: Source)
     let states = minutes.states;
     let values = from.at.values;
     let halves = states::halves(values);
-    let mut next = moves::next_move(minutes.rules, halves, rules::first(minutes.rules, from.at.mode));
+    let mut next = moves::next_move(
+        minutes.rules,
+        halves,
+        rules::first(minutes.rules, from.at.mode),
+    );
     while let Some(e) = next {
         let to = states::lead(states, minutes.table, values, e);
         let charge = minutes.table.price(e) as u32 + from.charge;

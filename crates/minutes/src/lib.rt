@@ -2,7 +2,7 @@
 #![tactic(auto)]
 
 ghost use Rattle.minutes.specs.Edges.{rooted_of};
-ghost use Rattle.minutes.proofs.Settling.{goal-searchable};
+ghost use Rattle.minutes.specs.Laws.Searchable.{goal-searchable};
 
 mod edges;
 pub mod graph;

@@ -13,12 +13,6 @@ pub relax_moves-requires : goal.relax_moves-requires
 relax_moves-requires c =
     moves-ready c.requires c.wait-later.result c.wait-later.ensures c.stays.result c.stays.ensures c.if-stays.true
 
-pub shape_of-words : goal.shape_of-words
-shape_of-words c =
-    let p = c.requires in
-    (minute-done p c.wait-later.result c.wait-later.ensures c.stays.result c.stays.ensures c.if-stays.true c.relax_moves.ensures
-    p.pairs.goal p.pairs.node p.pairs.standing).kept
-
 pub returns-then-stays : goal.returns-then-stays
 returns-then-stays c =
     minute-done c.requires c.wait-later.result c.wait-later.ensures c.stays.result c.stays.ensures c.if-stays.true

@@ -1,13 +1,12 @@
--- `minutes::edges::relax_moves` meets its contract. The loop has relaxed the pairs with the moves before e, which is one that is not passed over.
+-- `minutes::edges::relax_moves` meets its contract. The loop has relaxed the pairs with the moves before the next one, which is not passed over.
 -- Assumes nothing.
-use Prim.Native.Nat.{◌-◌}
-use Rattle.space.specs.Moves.{OpenMove}
-use Rattle.minutes.proofs.MoveRelaxing.{MovesTo}
+use Rattle.rules.specs.Laws.Moves.{left}
+use Rattle.minutes.proofs.MoveRelaxing.{Turn}
 use Rattle.minutes.proofs.edges.relax_moves.Given as goal
 
-abbrev pub invariant-loop-e : goal.invariant-loop-e
-invariant-loop-e l =
-    OpenMove l.table.bytes l.rules l.halves l.from.at.mode l.e × MovesTo l.table.bytes l.states l.from l.e l.initial.words l.words
+abbrev pub invariant-loop-next : goal.invariant-loop-next
+invariant-loop-next l =
+    Turn l.minutes.table.now.bytes l.minutes.rules.now l.minutes.states l.from l.halves l.next l.initial.words l.words
 
-abbrev pub decreases-loop-e : goal.decreases-loop-e
-decreases-loop-e l = 64 - l.e
+abbrev pub decreases-loop-next : goal.decreases-loop-next
+decreases-loop-next l = left l.next

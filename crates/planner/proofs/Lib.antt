@@ -2,3 +2,4 @@
 pub mod Telling
 pub mod Timing
 pub mod Writing
+pub mod Answered

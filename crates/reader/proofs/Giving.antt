@@ -60,12 +60,17 @@ known-by {bytes = bytes} {next = next} k t = t.taken ∙ ap (λ (a : _). took a 
 pub known : {A : Type 0} {bytes : List ℕ} {next : ℕ} {v : A} {o : Outcome A} → Took bytes next (λ a. v ≡ a) o → o ≡ took v (drop next bytes)
 known t = known-by (λ a e. e) t
 
+-- So the whole goes on with it.
+pub part-known : {A B : Type 0} {bytes : List ℕ} {next : ℕ} {v : A} (p : Parser A) (f : A → Parser B) (s : List ℕ) → Took bytes next (λ a. v ≡ a) (run p s) →
+    run (p >>= f) s ≡ run (f v) (drop next bytes)
+part-known p f s t = part-taken p f s (known t)
+
 -- The last part, whose value makes the whole's.
-pub reads-last : {A B : Type 0} (bytes : List ℕ) (P : A → Type 0) (Q : B → Type 0) (p : Parser A) (f : A → B) (s : List ℕ) {o : Outcome B} (r : Result ℕ Refusal) →
+pub part-last : {A B : Type 0} (bytes : List ℕ) (P : A → Type 0) (Q : B → Type 0) (p : Parser A) (f : A → B) (s : List ℕ) {o : Outcome B} (r : Result ℕ Refusal) →
     o ≡ run (p >>= λ a. done (f a)) s → Gives bytes (λ next. next) (λ next. P) (run p s) r →
     ((next : ℕ) (a : A) → run p s ≡ took a (drop next bytes) → P a → Q (f a)) → Gives bytes (λ next. next) (λ next. Q) o r
-reads-last bytes P Q p f s (Ok next) e t k = record { value = f t.value; taken = e ∙ part-taken p _ s t.taken; holds = k next t.value t.taken t.holds }
-reads-last bytes P Q p f s (Err n) e q k = e ∙ part-refused p _ s q
+part-last bytes P Q p f s (Ok next) e t k = record { value = f t.value; taken = e ∙ part-taken p _ s t.taken; holds = k next t.value t.taken t.holds }
+part-last bytes P Q p f s (Err n) e q k = e ∙ part-refused p _ s q
 
 -- The bit of the low byte.
 pub low_same : (map : ℕ) (s : List ℕ) → run (amount_byte map 0) s ≡ run (if_stands (eqb (map % 2) 1) any_byte) s

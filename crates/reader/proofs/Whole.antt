@@ -25,7 +25,7 @@ use Rattle.reader.specs.Theorems.Running.{order-length}
 use Rattle.table.specs.Theorems.Holding.{length-pad, Shaped, fields-shaped}
 use Rattle.reader.specs.Theorems.Accepted.{layout-shaped}
 use Rattle.table.specs.Theorems.Access.{start-at}
-use Rattle.reader.proofs.Giving.{part-taken, part-refused, reads-last}
+use Rattle.reader.proofs.Giving.{part-taken, part-refused, part-last}
 
 abbrev zeros : ℕ → List ℕ
 zeros n = replicate n 0
@@ -111,7 +111,7 @@ module _ {bytes t₀ t₁ : List ℕ} (g : Took bytes 4 (HeaderWrote t₀ t₁) 
         let h = g.value in
         let cs = gc.value in
         let ms = gm.value in
-        reads-last bytes _ _ (in_order (λ i. move_record m n) 0 e) _ (drop o bytes) r
+        part-last bytes _ _ (in_order (λ i. move_record m n) 0 e) _ (drop o bytes) r
         (part-taken header _ bytes g.taken ∙ rw (← timers-are, ← modes-are, ← moves-are)
         (part-taken (in_order (λ i. within 2 1 15) 0 n) _ (drop 4 bytes) gc.taken
         ∙ part-taken (in_order (λ i. mode_record n) 0 m) _ (drop c bytes) gm.taken)) ge (λ next es v j.

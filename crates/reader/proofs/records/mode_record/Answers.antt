@@ -2,7 +2,7 @@
 use mathlib.Core.Path.{◌∙◌}
 use lib.ListN.{drop}
 use Rattle.reader.specs.Format.{bit_map, amount_byte, conditions, mode_record}
-use Rattle.reader.proofs.Giving.{part-refused, part-taken, two-refused, two-taken, known, passed-up, reads-last}
+use Rattle.reader.proofs.Giving.{part-refused, part-taken, two-refused, two-taken, known, passed-up, part-last}
 use Rattle.reader.proofs.Writing.{wrote-mode}
 use Rattle.reader.proofs.records.mode_record.Goals as goal
 
@@ -31,7 +31,7 @@ returns c =
     let map = c.in_ok-map in
     let b = map.map.value in
     let last = c.in_ok-last in
-    reads-last a.bytes.now _ _ (amount_byte b 7) _ (drop last.last a.bytes.now) c.high_byte.result
+    part-last a.bytes.now _ _ (amount_byte b 7) _ (drop last.last a.bytes.now) c.high_byte.result
     (part-taken (bit_map a.timers) _ (drop a.from a.bytes.now) (known map.ensures)
     ∙ two-taken (amount_byte b 0) (λ low. conditions b) _ (drop map.map.next a.bytes.now) last.ensures.taken)
     c.high_byte.ensures (λ next high q e. wrote-mode high last.ensures.holds e)

@@ -4,7 +4,7 @@ use mathlib.Core.Path.{◌∙◌}
 use lib.ListN.{drop}
 use Rattle.reader.specs.Format.{within, bit_map, amount_byte, conditions, move_record}
 use Rattle.reader.specs.Step.{resets}
-use Rattle.reader.proofs.Giving.{part-refused, part-taken, two-refused, two-taken, known, known-by, passed-up, reads-last}
+use Rattle.reader.proofs.Giving.{part-refused, part-taken, two-refused, two-taken, known, known-by, passed-up, part-last}
 use Rattle.reader.proofs.Writing.{wrote-move}
 use Rattle.reader.proofs.records.move_record.Goals as goal
 
@@ -67,7 +67,7 @@ returns c =
     let reset = c.in_ok-reset in
     let byte = c.in_ok-byte in
     let read = known-by (λ v w. w.value) byte.ensures in
-    reads-last a.bytes.now _ _ (amount_byte byte.byte.value 7) _ (drop byte.byte.next a.bytes.now) c.high_byte.result
+    part-last a.bytes.now _ _ (amount_byte byte.byte.value 7) _ (drop byte.byte.next a.bytes.now) c.high_byte.result
     (part-taken (bit_map a.timers) _ (drop a.from a.bytes.now) (known map.ensures)
     ∙ two-taken mode (λ s. mode) _ (drop map.map.next a.bytes.now) price.ensures.taken
     ∙ two-taken (amount_byte b 0) (λ low. conditions b) _ (drop price.price a.bytes.now) reset.ensures.taken

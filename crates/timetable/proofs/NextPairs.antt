@@ -1,6 +1,6 @@
 -- The pairs of the node of a walk, looked at from a label on, minute after minute, for the first whose edge is tight.
 -- Assumes nothing.
-use mathlib.Core.Path.{◌≡◌, refl, ap, subst, ◌∙◌}
+use mathlib.Core.Path.{◌≡◌, refl, ap, ◌∙◌}
 use mathlib.Core.List.{List}
 use Prim.Native.Nat.{ℕ, ◌+◌, ◌*◌, ◌-◌, ◌/◌, ◌%◌, ◌≤◌, ◌<◌}
 use native.Mathlib.Decide.{dec_lt}
@@ -12,10 +12,9 @@ use Rattle.table.specs.Theorems.Access.{get_or-pad}
 use Rattle.states.specs.declared.States.{States}
 use Rattle.states.specs.declared.State.{State}
 use Rattle.minutes.specs.declared.waits.Source.{Source}
-use Rattle.states.specs.States.{most_timers, most_nodes, StatesReady, IsState, StandsAt}
+use Rattle.states.specs.States.{most_timers, IsState, StandsAt}
 use Rattle.minutes.specs.Edges.{state_of}
 use Rattle.states.specs.Laws.Bounds.{timers-some, ceiling-few}
-use Rattle.states.specs.Laws.Shows.{value-below}
 use Rattle.timetable.specs.declared.walk.Step.{Step}
 use Rattle.timetable.specs.Steps.{goal_graph, NoneTight, FirstTight, AtNode, StandingAt, AfterFound, NoAfter, no_pair}
 use Rattle.timetable.proofs.AfterWaits.{label-parts, edge-waits}
@@ -27,11 +26,6 @@ pub record NoneBelow (t rs : List ℕ) (s : States) (x : Source) (ws : List ℕ)
   pub silent : (v : ℕ) → AtNode t rs s ws v → StandingAt t x ws v → NoneTight t ws v x.pairs low label
 
 module _ {t rs : List ℕ} {s : States} {ws : List ℕ} {v : ℕ} (n : AtNode t rs s ws v) where
-  pub node-ready : StatesReady s × (v < most_nodes)
-  node-ready =
-      let z = n.setting in
-      (record { table = t; is-table = z.is-table; is-states = z.is-states }, omega (arith, n.inside, z.few))
-
   ceiling-is : get_or s.ceilings 0 0 ≡ get_or (automaton_of t).ceilings 0 0
   ceiling-is = ap (λ (l : List ℕ). get_or l 0 0) n.setting.is-states.ceilings-are ∙ get_or-pad most_timers (automaton_of t).ceilings 0
 
@@ -44,11 +38,6 @@ module _ {t rs : List ℕ} {s : States} {ws : List ℕ} {v : ℕ} (n : AtNode t 
 
     first-is : get_or at.values 0 0 ≡ (state_of t v).value 0
     first-is = node-stands.shows.there 0 (omega (arith, timers-some t n.setting.is-table))
-
-    -- Timer 0 is not above its ceiling.
-    pub value-first : get_or at.values 0 0 ≤ get_or s.ceilings 0 0
-    value-first =
-        omega (arith, first-is, ceiling-is, value-below (automaton_of t) v 0 (omega (arith, timers-some t n.setting.is-table)))
 
     pub node-standing : (pairs : ℕ) → StandingAt t (record { at = at; charge = charge_at ws v; pairs = pairs }) ws v
     node-standing pairs = record { stands = node-stands; charge-is = refl }

@@ -52,7 +52,11 @@ fn find(words: &mut [u32], route: &mut [u8], table: &Table) -> Result<Option<Cos
     rules::make(table, &mut rules);
     let states = states::states_of(table);
     let goal = ToGoal {
-        minutes: MinuteGraph { states, table, rules: &rules },
+        minutes: MinuteGraph {
+            states,
+            table,
+            rules: &rules,
+        },
         goal: table.goal(),
     };
     let Some(cost) = graph::search(words, &goal) else {

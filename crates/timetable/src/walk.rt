@@ -39,10 +39,7 @@ fn reached_at(words: &[u32], node: usize, charge: u32, pairs: u32) -> bool
     requires { TightRoom node words.now }
     ensures { Tells words.now node charge pairs result }
 {
-    if words[2 * node] != charge {
-        return false;
-    }
-    words[2 * node + 1] == pairs
+    words[2 * node] == charge && words[2 * node + 1] == pairs
 }
 
 // The first of the moves of a state, from `first` on, whose edge is tight: by the words its end is reached along it.
@@ -89,6 +86,7 @@ fn next_pair(words: &[u32], minutes: &MinuteGraph, stand: Stand) -> Option<Next>
         charge: words[2 * stand.node],
         pairs: stand.depth as u32 + 1,
     };
+    // The first label may stand within a minute: a range of waits would have to carry the label beside it.
     let mut label = stand.label;
     while label / MINUTE <= longest {
         let wait = label - label % MINUTE;

@@ -1,7 +1,6 @@
 -- What the words of a search say of the goal is the answer: no route, a route for which there are too few bytes, or the route written.
 -- Assumes nothing.
 use mathlib.Core.Path.{◌≡◌, refl, sym, ap, ap₂, subst, subst₂, ◌∙◌}
-use mathlib.Core.Logic.{◌≢◌}
 use mathlib.Core.List.{List, ◌++◌}
 use Prim.Native.Nat.{ℕ, ◌≤◌, ◌<◌}
 use native.Mathlib.Omega.{arith}
@@ -11,7 +10,7 @@ use Rattle.std.specs.Prelude.{Option, Some, None}
 use Rattle.semantics.specs.Automata.Proper.{Proper}
 use Rattle.semantics.specs.Automaton.{Automaton}
 use Rattle.semantics.specs.Order.{Cost, cost}
-use Rattle.semantics.specs.Graph.Path.{unreached, reached, infinity, table}
+use Rattle.semantics.specs.Graph.Path.{reached, table}
 use Rattle.semantics.specs.NodeCount.{node_count}
 use Rattle.semantics.specs.Graph.Distance.{distance}
 use Rattle.semantics.specs.Answer.{Answer as Best, route, answer}

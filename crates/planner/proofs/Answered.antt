@@ -8,10 +8,10 @@ use Rattle.std.specs.Prelude.{Option, Some, None, Result, Ok, Err}
 use Rattle.table.specs.declared.refusals.Refusal.{Refusal}
 use Rattle.table.specs.Refusals.{number}
 use Rattle.near.specs.declared.Cost.{Cost}
-use Rattle.route.specs.Answers.{Answer, told}
+use Rattle.route.specs.Answers.{told}
 use Rattle.route.specs.Plan.{outcome, planned}
 use Rattle.route.specs.Promise.{KeepsDemand}
-use Rattle.timetable.specs.Answers.{Answer as Timetabled, told as timetable_told}
+use Rattle.timetable.specs.Answers.{told as timetable_told}
 use Rattle.timetable.specs.Timetabled.{outcome as Timetabled·outcome, timetabled}
 use Rattle.timetable.specs.Promise.{KeepsTimetable}
 use Rattle.planner.specs.Numbers.{decoded, decoded_timetable, number_of, charge_after, count_after, Untouched}

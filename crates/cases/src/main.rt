@@ -101,8 +101,7 @@ fn of_table(rt: &impl Print, numbers: &[usize; TOKENS], bytes: &[u8]) {
     }
 }
 
-fn of_accepted(rt: &impl Print, numbers: &[usize; TOKENS], table: &Table)
-{
+fn of_accepted(rt: &impl Print, numbers: &[usize; TOKENS], table: &Table) {
     match numbers[0] {
         READ => readings::read(rt, table),
         SEARCH => searches::search(rt, table, numbers),

@@ -67,8 +67,12 @@ pub fn steps_of(answer: Result<Option<Cost>, Refusal>) -> usize {
     }
 }
 
-// The first place from a place on where the element is not x. There are no more before the place than there are elements.
+// The first place from a place on where the element is not x, or behind the last one.
 pub fn past<T: PartialEq>(elements: &[T], from: usize, x: &T) -> usize {
-    let behind = elements.iter().skip(from);
-    from + behind.take_while(|element| **element == *x).count()
+    for (at, element) in elements.iter().enumerate().skip(from) {
+        if element != x {
+            return at;
+        }
+    }
+    elements.len()
 }

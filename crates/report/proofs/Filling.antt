@@ -10,7 +10,7 @@ use lib.Seq.{take_at}
 use Rattle.io.specs.Counts.{IsPrefixLen}
 use Rattle.route.specs.Answers.{Answer}
 use Rattle.route.specs.Plan.{outcome, planned}
-use Rattle.report.specs.declared.Written.TheVariants.{Bytes, TooShort}
+use Rattle.std.specs.Prelude.{Some, None}
 use Rattle.report.specs.Lines.{lines}
 use Rattle.report.specs.Destination.{overwritten, room, filled, lines_into}
 use Rattle.report.specs.Text.{shown, lent_words, lent_route, printed, kept, printed-kept}
@@ -24,16 +24,16 @@ module _ {w d : List ℕ} {next : ℕ} {e : List ℕ} (p : Put w 0 d next e) whe
   start-bytes = let m : 0 + length w ≡ length w = omega arith in p.bytes ∙ ap (λ (k : ℕ). w ++ drop k d) m
 
 module _ (answer : Answer) (rs d : List ℕ) where
-  pub lines-refused-short : length d < room (length rs) → filled TooShort d ≡ lines_into answer rs d
+  pub lines-refused-short : length d < room (length rs) → filled None d ≡ lines_into answer rs d
   unfolding lines_into
   lines-refused-short h = rw (lt-leb (room (length rs)) (length d) h) refl
 
   pub lines-put : {next : ℕ} {e : List ℕ} → room (length rs) ≤ length d → Put (lines answer rs) 0 d next e →
-      filled (Bytes next) e ≡ lines_into answer rs d
+      filled (Some next) e ≡ lines_into answer rs d
   unfolding lines_into
   lines-put h p =
       rw (le-leb (room (length rs)) (length d) h)
-      (ap₂ (λ (n : ℕ) (l : List ℕ). filled (Bytes n) l) (start-count p) (start-bytes p))
+      (ap₂ (λ (n : ℕ) (l : List ℕ). filled (Some n) l) (start-count p) (start-bytes p))
 
 -- The lines of an outcome of planning with the memory that the unit lends.
 module _ (bytes : List ℕ) {answer : Answer} {ws rs : List ℕ} (o : outcome answer ws rs ≡ planned bytes lent_words lent_route) where

@@ -1,12 +1,13 @@
 -- What the words of a search say of the goal is the answer: no route, a route for which there are too few bytes, or the route written.
 -- Assumes nothing.
-use mathlib.Core.Path.{◌≡◌, refl, sym, ap, ap₂, subst, ◌∙◌}
+use mathlib.Core.Path.{◌≡◌, refl, sym, ap, ap₂, subst, subst₂, ◌∙◌}
 use mathlib.Core.Logic.{◌≢◌}
 use mathlib.Core.List.{List, ◌++◌}
 use Prim.Native.Nat.{ℕ, ◌≤◌, ◌<◌}
 use native.Mathlib.Omega.{arith}
-use borrow.Author.Tests.{eq-eqb, ne_eqb, le-leb, lt-leb}
+use borrow.Author.Tests.{le-leb, lt-leb}
 use lib.ListN.{length, drop}
+use Rattle.std.specs.Prelude.{Option, Some, None}
 use Rattle.semantics.specs.Automata.Proper.{Proper}
 use Rattle.semantics.specs.Automaton.{Automaton}
 use Rattle.semantics.specs.Order.{Cost, cost}
@@ -68,8 +69,17 @@ pub best-room :
     {t rules : List ℕ} {nodes : ℕ} {ws : List ℕ} → Found t rules nodes ws → (modes : ℕ) → modes ≡ length (automaton_of t).modes → BestRoom nodes modes ws
 best-room {t} {rules} {nodes} {ws} f modes e = subst (λ (m : ℕ). BestRoom nodes m ws) (sym e) f.room
 
-module _ {t rules : List ℕ} {nodes : ℕ} {ws : List ℕ} (f : Found t rules nodes ws) (r : CostHeld)
-    (best : IsBest nodes (automaton_of t).goal (length (automaton_of t).modes) ws r) where
+-- What was found is the least cost of the goal's nodes.
+pub best_of :
+    (t : List ℕ) (nodes : ℕ) (ws : List ℕ) (r : Option CostHeld) → {goal modes : ℕ} → goal ≡ (automaton_of t).goal
+    → modes ≡ length (automaton_of t).modes → IsBest nodes goal modes ws r → IsBest nodes (automaton_of t).goal (length (automaton_of t).modes) ws r
+best_of t nodes ws r goal-is modes-are = subst₂ (λ (l m : ℕ). IsBest nodes l m ws r) goal-is modes-are
+
+module _ {t rules : List ℕ} {nodes : ℕ} {ws : List ℕ} (f : Found t rules nodes ws) where
+  -- The goal's cost was read off the words.
+  abbrev BestOf : Option CostHeld → Type 0
+  BestOf = IsBest nodes (automaton_of t).goal (length (automaton_of t).modes) ws
+
   -- The automaton is one of the theory, with few nodes.
   proper : Proper (automaton_of t)
   proper = table-proper t f.is-table
@@ -78,27 +88,26 @@ module _ {t rules : List ℕ} {nodes : ℕ} {ws : List ℕ} (f : Found t rules n
   few = omega (arith, f.few, f.counted)
 
   -- The cost that was found is the least cost from the start into the goal.
-  found-distance : cost_entry r ≡ distance (graph_of t (automaton_of t).goal) (start_of t)
-  found-distance =
+  found-distance : (r : Option CostHeld) → BestOf r → cost_entry r ≡ distance (graph_of t (automaton_of t).goal) (start_of t)
+  found-distance r best =
       let k = f.is-table in
       let l = (automaton_of t).goal in
       near-best (graph_of t l) (start_of t) (goal-closed t k l) (goal-inside t k l) most_price (goal-light t k l) (goal-small t k l few) (table ws) f.near
       (cost_entry r) (best-target t k l nodes (length (automaton_of t).modes) f.counted refl ws r best)
 
   -- There is none.
-  pub read_none : r.charge ≡ infinity → (rs : List ℕ) → ReadOff t ws rs ws rs NoRoute
-  read_none none rs =
+  pub read_none : BestOf None → (rs : List ℕ) → ReadOff t ws rs ws rs NoRoute
+  read_none best rs =
       let a = automaton_of t in
       let l = (automaton_of t).goal in
-      let no : cost_entry r ≡ unreached = rw (eq-eqb r.charge infinity none) refl in
-      let is = unreached-answer a proper l (distance (graph_of t l)) (into-least a proper l) (sym found-distance ∙ no) in
+      let is = unreached-answer a proper l (distance (graph_of t l)) (into-least a proper l) (sym (found-distance None best)) in
       record { is-answer = λ vs. sym (ap (λ (x : Best). routed a x vs rs) is); words = rest-same t ws }
 
   -- There is one.
-  module _ (known : r.charge ≢ infinity) (rs : List ℕ) where
+  module _ {r : CostHeld} (best : BestOf (Some r)) (rs : List ℕ) where
     -- It is the least cost from the start, and that of the route.
     found : distance (graph_of t (automaton_of t).goal) (start_of t) ≡ reached (cost r.charge r.steps)
-    found = sym found-distance ∙ rw (ne_eqb r.charge infinity known) refl
+    found = sym (found-distance (Some r) best)
 
     found-route : (ks : List ℕ) × (answer (automaton_of t) (automaton_of t).goal ≡ route r.charge ks) × (length ks ≡ r.steps)
     found-route =

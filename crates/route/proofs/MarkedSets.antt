@@ -8,6 +8,8 @@ use native.Mathlib.Nat.{div-eq_of_lt, pow-le-pow_right}
 use native.Mathlib.Decide.{ℕ_discrete, dec_lt}
 use native.Mathlib.Omega.{arith}
 use borrow.Author.Tests.{eq-eqb, ne_eqb, eqb-true, eqb-false}
+use Rattle.std.specs.Prelude.{Option, Some, None}
+use Rattle.std.specs.Option.{MatchOption, unwrap_or}
 use Rattle.steps.specs.Steps.{Marked}
 use Rattle.route.specs.Walk.{is_marked, lowest}
 
@@ -32,15 +34,6 @@ marked-one j = (λ m. at m (dec_lt 0 j), λ e. subst (Marked 1) (sym e) refl)
         let none : 1 / 2 ^ j ≡ 0 = div-eq_of_lt {n = 1} {m = 2 ^ j} (omega arith) in
         absurd (omega arith)
 
--- One more corner is not in the set.
-pub unmarked-more :
-    (set j : ℕ) → ((i : ℕ) → i < j → Marked set i → ⊥) → (Marked set j → ⊥) → (i : ℕ) → i < j + 1 → Marked set i → ⊥
-unmarked-more set j none here i h m = at (ℕ_discrete i j)
-  where
-    at : Dec (i ≡ j) → ⊥
-    at (yes e) = here (subst (Marked set) e m)
-    at (no e) = none i (omega arith) m
-
 -- The first of the corners 0, 1 and 2 that is in the set is its lowest; 3 is, if none of them is.
 pub lowest-is : (set j : ℕ) → j ≤ 3 → (j < 3 → Marked set j) → ((i : ℕ) → i < j → Marked set i → ⊥) → j ≡ lowest set
 unfolding lowest
@@ -57,6 +50,15 @@ lowest-is set j few here none = at (dec_lt 0 j) (dec_lt 1 j) (dec_lt 2 j)
     at (yes a) (no b) c = let e : j ≡ 1 = omega arith in rw (unmarked 0 a, is 1 e (omega arith)) e
     at (yes a) (yes b) (no c) = let e : j ≡ 2 = omega arith in rw (unmarked 0 a, unmarked 1 b, is 2 e (omega arith)) e
     at (yes a) (yes b) (yes c) = rw (unmarked 0 a, unmarked 1 b, unmarked 2 c) (omega arith)
+
+-- So it is what `find` gives among them, or 3.
+pub lowest-found :
+    (set : ℕ) (r : Option ℕ)
+    → MatchOption r ((k : ℕ) → 0 ≤ k → k < 3 → Marked set k → ⊥)
+    (λ i. (0 ≤ i) × (i < 3) × Marked set i × ((k : ℕ) → 0 ≤ k → k < i → Marked set k → ⊥))
+    → unwrap_or r 3 ≡ lowest set
+lowest-found set None none = lowest-is set 3 (omega arith) (λ h. absurd (omega arith)) (λ k. none k (omega arith))
+lowest-found set (Some i) f = lowest-is set i (omega (arith, f.1)) (λ _. f.2) (λ k. f.3 k (omega arith))
 
 -- The lowest corner is in the set, if any is.
 pub lowest-marked : (set j : ℕ) → set < 16 → Marked set j → Marked set (lowest set)

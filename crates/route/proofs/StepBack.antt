@@ -10,6 +10,7 @@ use native.Mathlib.Decide.{ℕ_discrete}
 use native.Mathlib.Omega.{arith}
 use borrow.Author.Tests.{eq-eqb, ne_eqb}
 use lib.Dec.{eqb}
+use Rattle.std.specs.Prelude.{None}
 use lib.ListN.{length, get_or, take}
 use lib.Seq.{take-suc}
 use Rattle.semantics.specs.Automaton.{Automaton}
@@ -20,13 +21,12 @@ use Rattle.semantics.proofs.Answers.Trail.{Trail, trail-marked, trail-deep, trai
 use Rattle.table.specs.Held.{automaton_of}
 use Rattle.space.specs.declared.Space.{Space}
 use Rattle.steps.specs.declared.Stand.{Stand}
-use Rattle.steps.specs.declared.Next.{Next}
 use Rattle.steps.specs.Steps.{Marked, stand_place, NextStep}
 use Rattle.route.specs.Walk.{WalkReady, lowest, pointer, pointing, PruneRoom, BacktrackReady, Backtracked}
 use Rattle.route.proofs.MarkedSets.{marked-few, lowest-marked}
 use Rattle.route.proofs.Live.{turns, turns-backtrack}
 use Rattle.route.proofs.Trailing.{marks, Shown, gone, Walking, shown-charge, shown-gone, shown-kept}
-use Rattle.route.proofs.Walking.{proper, taken, words-room, entry_at, entry_here, firsts-here, sets-here, stand-place, first-there, ready, away, is-next, tried}
+use Rattle.route.proofs.Walking.{proper, taken, words-room, entry_at, entry_here, firsts-here, sets-here, stand-place, first-there, ready, away, tried}
 
 -- What a pointer says.
 pointer-first : (first set : ℕ) → first < 65536 → pointer first set % 65536 ≡ first
@@ -37,7 +37,7 @@ pointer-set first set h b = omega arith
 
 module _
     {t rs : List ℕ} {s : Space} {ws₀ bs₀ : List ℕ} (w : WalkReady t rs s ws₀ bs₀) {ws bs : List ℕ} {z : Stand} (k : Walking w ws bs z)
-    (r : Next) (step : NextStep t s z ws r) (none : 66 ≤ r.byte)
+    (step : NextStep t s z ws None)
     (far : z.first / s.block ≢ (automaton_of t).goal) where
   abbrev a : Automaton
   a = automaton_of t
@@ -46,9 +46,7 @@ module _
   l = (automaton_of t).goal
 
   all-tried : Trail a l k.costs (take z.steps bs) 66 k.firsts (marks k.sets)
-  all-tried =
-      let all : r.byte ≡ 66 = omega (arith, (is-next w k r step).few) in
-      subst (λ (b : ℕ). Trail a l k.costs (take z.steps bs) b k.firsts (marks k.sets)) all (tried w k r step)
+  all-tried = tried w k None step
 
   -- There is a step to take back, and its byte stands in the route.
   pub steps-some : 0 < z.steps

@@ -10,6 +10,7 @@ use native.Mathlib.Numerals.{add-one}
 use native.Mathlib.Omega.{arith}
 use borrow.Author.Tests.{eq-eqb, ne_eqb}
 use lib.Dec.{eqb}
+use Rattle.std.specs.Prelude.{Some}
 use lib.ListN.{length, get_or, take, set, length-append, length-set}
 use lib.Seq.{get_or-set_same, get_or-set_other, drop-set-lt, take-suc-set}
 use Rattle.semantics.specs.Automaton.{Automaton}
@@ -50,15 +51,18 @@ module _ (f : ℕ → ℕ) (k x : ℕ) where
 
 module _
     {t rs : List ℕ} {s : Space} {ws₀ bs₀ : List ℕ} (w : WalkReady t rs s ws₀ bs₀) {ws bs : List ℕ} {z : Stand} (k : Walking w ws bs z)
-    (r : Next) (step : NextStep t s z ws r) (b : r.byte < 66) where
+    (r : Next) (step : NextStep t s z ws (Some r)) where
   abbrev a : Automaton
   a = automaton_of t
 
   abbrev l : ℕ
   l = (automaton_of t).goal
 
+  pub few : r.byte < 66
+  few = ((is-next w k (Some r) step).leads r refl).0
+
   leads : Leads t l k.costs z r
-  leads = (is-next w k r step).leads b
+  leads = ((is-next w k (Some r) step).leads r refl).1
 
   -- The places on the way, with the next.
   abbrev firsts' : ℕ → ℕ
@@ -70,7 +74,7 @@ module _
   -- They are a trail of one step more.
   longer : Trail a l k.costs (take z.steps bs ++ r.byte ∷ []) 0 firsts' (marks sets')
   longer =
-      trail-further a (proper w) l w.best w.is-best (tried w k r step) (stand_place t z) (stand-place w k) (first-there w k) leads.place
+      trail-further a (proper w) l w.best w.is-best (tried w k (Some r) step) (stand_place t z) (stand-place w k) (first-there w k) leads.place
       leads.leads firsts' (λ i h. sym (updated-other k.firsts (z.steps + 1) r.first i (omega (arith, taken w k)))) next-first (marks sets')
       (λ i h. ap Marked (sym (updated-other k.sets (z.steps + 1) r.set i (omega (arith, taken w k))))) next-set
       leads.corner (subst (λ (m : ℕ). Marked m leads.corner) (sym last_set) leads.marked)
@@ -197,7 +201,7 @@ module _
     where
       at : Dec (i ≡ z.steps) → get_or bs' i 0 < 66
       at (yes o) =
-          rw (o, get_or-set_same bs z.steps r.byte 0 (omega (arith, steps-below, k.sized, w.room))) b
+          rw (o, get_or-set_same bs z.steps r.byte 0 (omega (arith, steps-below, k.sized, w.room))) few
       at (no o) = rw (get_or-set_other bs z.steps i r.byte 0 o) (k.bytes_below i (omega arith))
 
   advance-here : Walking w ws' bs' z'

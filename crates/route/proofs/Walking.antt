@@ -9,6 +9,7 @@ use native.Mathlib.Decide.{ℕ_discrete}
 use native.Mathlib.Omega.{arith}
 use lib.ListN.{length, take, drop, length-replicate, take-append-drop}
 use lib.Seq.{length-take-le}
+use Rattle.std.specs.Prelude.{Option}
 use Rattle.semantics.specs.Automata.Proper.{Proper}
 use Rattle.semantics.specs.Automaton.{Automaton, timers}
 use Rattle.semantics.specs.Order.{cost}
@@ -35,7 +36,7 @@ use Rattle.space.specs.declared.Space.{Space}
 use Rattle.steps.specs.declared.Stand.{Stand}
 use Rattle.steps.specs.declared.Next.{Next}
 use Rattle.space.specs.Space.{start_of, place_of}
-use Rattle.steps.specs.Steps.{Marked, stand_place, Tells, StandReady, IsNext, NextStep}
+use Rattle.steps.specs.Steps.{Marked, stand_place, Tells, StandReady, byte_of, IsNext, NextStep}
 use Rattle.route.specs.Walk.{WalkReady, WalkDone}
 use Rattle.route.proofs.MarkedSets.{marked-one}
 use Rattle.route.proofs.Trailing.{marks, Shown, gone, plain, Walking, shown-charge, shown-next, next-shown}
@@ -229,14 +230,14 @@ module _ {t rs : List ℕ} {s : Space} {ws₀ bs₀ : List ℕ} (w : WalkReady t
         n (ap (λ (m : ℕ). z.first / m) w.setting.is-space.block-is ∙ sym (mode-share a z.first) ∙ e)
 
     -- What the next step says of the table.
-    module _ (r : Next) (step : NextStep t s z ws r) where
+    module _ (r : Option Next) (step : NextStep t s z ws r) where
       pub is-next : IsNext t (automaton_of t).goal k.costs z r
       is-next = step l k.costs tells
 
       -- The bytes before its byte were tried.
-      pub tried : Trail (automaton_of t) (automaton_of t).goal k.costs (take z.steps bs) r.byte k.firsts (marks k.sets)
+      pub tried : Trail (automaton_of t) (automaton_of t).goal k.costs (take z.steps bs) (byte_of r) k.firsts (marks k.sets)
       tried =
-          trail-tried a proper l w.best w.is-best k.trail (stand_place t z) stand-place first-there r.byte
+          trail-tried a proper l w.best w.is-best k.trail (stand_place t z) stand-place first-there (byte_of r)
           (λ b y i from to f led. is-next.none_before b y i from to f (led-here b y i led))
         where
           led-here :

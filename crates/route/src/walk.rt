@@ -16,14 +16,7 @@ const LEAST_BYTE: usize = 0;
 fn lowest(set: u32) -> usize
     ensures { result ≡ lowest set }
 {
-    let mut j = 0;
-    while j < 3 {
-        if steps::marked(set, j) {
-            return j;
-        }
-        j += 1;
-    }
-    j
+    (0..3).find(|&j| steps::marked(set, j)).unwrap_or(3)
 }
 
 // The marked corners of a place become unreached.
@@ -65,7 +58,7 @@ fn backtrack(words: &mut [u32], stand: Stand, byte: u8) -> Stand
         first: (pointer % 65536) as usize,
         set: pointer / 65536 % 16,
         steps: stand.steps - 1,
-        byte: byte as usize + 1,
+        byte: usize::from(byte) + 1,
     }
 }
 

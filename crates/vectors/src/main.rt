@@ -19,7 +19,7 @@ fn main(rt: HostRuntime) -> io::Result<()> {
 fn each(rt: &impl Print, bytes: &[u8]) -> io::Result<()> {
     let mut rest = bytes;
     while 2 <= rest.len() {
-        let length = rest[0] as usize + 256 * (rest[1] as usize);
+        let length = usize::from(u16::from_le_bytes([rest[0], rest[1]]));
         let end = 2 + length;
         if rest.len() < end {
             return Ok(());

@@ -4,7 +4,7 @@ use Prim.Native.Nat.{◌<◌}
 use native.Mathlib.Omega.{arith}
 use borrow.Author.Tests.{ltb-false}
 use lib.ListN.{length}
-use Rattle.report.specs.Destination.{room}
+use Rattle.report.specs.Destination.{told, room}
 use Rattle.report.proofs.Filling.{lines-refused-short, lines-put}
 use Rattle.report.proofs.lines.Goals.{Joined-then-out-lt-FRAME, then-out-lt-FRAME-via-then-out-lt-FRAME, then-out-lt-FRAME-via-else-out-lt-FRAME+then-out-route}
 use Rattle.report.proofs.lines.Goals as goal
@@ -18,7 +18,7 @@ short c =
     ]
 
 pub returns-then-out-lt-FRAME : goal.returns-then-out-lt-FRAME
-returns-then-out-lt-FRAME c = let a = c.args in lines-refused-short a.answer a.route.now a.out.now (short c)
+returns-then-out-lt-FRAME c = let a = c.args in lines-refused-short (told a.answer) a.route.now a.out.now (short c)
 
 pub put_lines-requires : goal.put_lines-requires
 put_lines-requires c = omega (arith, ltb-false)
@@ -26,4 +26,4 @@ put_lines-requires c = omega (arith, ltb-false)
 pub returns : goal.returns
 returns c =
     let a = c.args in
-    lines-put a.answer a.route.now a.out.now (omega (arith, ltb-false)) c.put_lines.ensures
+    lines-put (told a.answer) a.route.now a.out.now (omega (arith, ltb-false)) c.put_lines.ensures

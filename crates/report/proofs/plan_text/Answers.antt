@@ -5,5 +5,5 @@ use Rattle.report.proofs.plan_text.Goals as goal
 
 pub returns : goal.returns
 returns c =
-    let t = text-put c.args.bytes.now c.plan-answer.ensures.outcome c.put_lines.ensures in
+    let t = text-put c.args.bytes.now (rw (sym c.from.ensures) at c.plan-answer.ensures.outcome) c.put_lines.ensures in
     record { within = t.0; count = t.1.0; text = t.1.1.0; kept = t.1.1.1 }

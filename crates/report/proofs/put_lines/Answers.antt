@@ -1,6 +1,8 @@
 -- `report::put_lines` meets its contract.
 -- Assumes nothing.
+use mathlib.Core.Path.{ap}
 use mathlib.Core.List.{[]}
+use Rattle.report.specs.Destination.{told}
 use native.Mathlib.Omega.{arith}
 use Rattle.route.specs.Answers.{Refused, Route}
 use Rattle.report.specs.Short.{AreBytes, lines-short}
@@ -23,15 +25,15 @@ put_route-requires c =
 
 pub returns-in-Refused : goal.returns-in-Refused
 returns-in-Refused c =
-    let e = lines-refused c.in-Refused.n c.args.route.now c.in-Refused.is in
+    let e = lines-refused c.in-Refused.n c.args.route.now (ap told c.in-Refused.is) in
     rw e c.put_refusal.ensures
 
 pub returns-in-NoRoute : goal.returns-in-NoRoute
 returns-in-NoRoute c =
-    let e = lines_none c.args.route.now c.in-NoRoute.is in
+    let e = lines_none c.args.route.now (ap told c.in-NoRoute.is) in
     rw e c.put_text.ensures
 
 pub returns-in-Route : goal.returns-in-Route
 returns-in-Route c =
-    let e = lines-route c.in-Route.charge c.in-Route.steps c.args.route.now c.in-Route.is in
+    let e = lines-route c.in-Route.charge c.in-Route.steps c.args.route.now (ap told c.in-Route.is) in
     rw e c.put_route.ensures

@@ -1,36 +1,20 @@
 -- `route::lend` meets its contract. Assumes nothing.
 use mathlib.Core.Path.{◌∙◌}
-use Prim.Native.Nat.{ℕ, ◌<◌}
-use native.Mathlib.Omega.{arith}
-use lib.ListN.{get_or}
-use Rattle.reader.specs.Theorems.Accepted.{accepted-table, accepted-read, rejected-read}
+use Rattle.std.proofs.lemmas.Result.{err_from_is_err_and}
+use Rattle.table.specs.Refusals.{number}
+use Rattle.route.specs.Lend.{told_needs}
 use Rattle.route.proofs.Lending.{needed-refused, needed-accepted, needs-enough}
-use Rattle.route.proofs.lend.Goals.{After-read-verdict}
 use Rattle.route.proofs.lend.Goals as goal
 
--- The bytes are below 256.
-small : (c : After-read-verdict) → (i : ℕ) → get_or c.args.bytes.now i 0 < 256
-small c i = omega (arith, c.shared_slice_known-1.given i)
-
-pub memory_of-requires : goal.memory_of-requires
-memory_of-requires c =
-    accepted-table c.args.bytes.now c.read-verdict.new.table c.read-verdict.result (small (goal.at.memory_of-requires c).After-read-verdict) c.read-verdict.ensures
-    c.in-Accepted.is
-
-pub returns-in-Refused : goal.returns-in-Refused
-returns-in-Refused c =
+pub returns-in_err-table : goal.returns-in_err-table
+returns-in_err-table c =
     let bytes = c.args.bytes.now in
-    let n = c.in-Refused.n in
-    let e =
-    needed-refused bytes n (rejected-read bytes c.read-verdict.new.table c.read-verdict.result c.read-verdict.ensures n c.in-Refused.is) in
-    record { needs = e; promise = needs-enough bytes _ e }
+    let passed = err_from_is_err_and c.from_residual.result c.from_residual.ensures.1 in
+    let e = needed-refused bytes (number c.in_err-table.field-0.0) c.in_err-table.ensures in
+    rw (passed.1, passed.2) (record { needs = e; promise = needs-enough bytes _ e })
 
-pub returns-in-Accepted : goal.returns-in-Accepted
-returns-in-Accepted c =
+pub returns : goal.returns
+returns c =
     let bytes = c.args.bytes.now in
-    let t = c.read-verdict.new.table in
-    let e =
-    c.memory_of.ensures
-    ∙ needed-accepted bytes t (accepted-read bytes t c.read-verdict.result (small (goal.at.returns-in-Accepted c).After-read-verdict)
-    c.read-verdict.ensures c.in-Accepted.is) in
+    let e = c.memory_of.ensures ∙ needed-accepted bytes c.in_ok-table.table.bytes c.in_ok-table.ensures in
     record { needs = e; promise = needs-enough bytes _ e }

@@ -1,38 +1,42 @@
 -- `route::read_route` meets its contract.
 -- Assumes nothing.
-use mathlib.Core.Path.{subst₂}
-use Prim.Native.Nat.{ℕ}
+use Rattle.std.specs.Prelude.{Some, None}
+use Rattle.near.specs.Near.{IsBest}
 use lib.ListN.{length}
 use Rattle.table.specs.Held.{automaton_of}
-use Rattle.near.specs.Near.{IsBest}
-use Rattle.route.proofs.Answering.{best-room, read_none, read_short, walk-ready, read-written}
-use Rattle.route.proofs.read_route.Goals.{After-best-cost}
+use Rattle.route.proofs.Answering.{best-room, best_of, read_none, read_short, walk-ready, read-written}
+use Rattle.route.proofs.read_route.Goals.{In-Some}
 use Rattle.route.proofs.read_route.Goals as goal
 
 -- The goal's cost.
-best_of : (c : After-best-cost) → IsBest c.args.nodes (automaton_of c.args.table.now.bytes).goal (length (automaton_of c.args.table.now.bytes).modes)
-    c.args.words.now c.best-cost.result
-best_of c =
-    subst₂ (λ (l m : ℕ). IsBest c.args.nodes l m c.args.words.now c.best-cost.result) c.goal.ensures
-    c.modes.ensures c.best-cost.ensures
+cost_of : (c : In-Some) → IsBest c.args.nodes (automaton_of c.args.table.now.bytes).goal (length (automaton_of c.args.table.now.bytes).modes)
+    c.args.words.now (Some c.in-Some.cost)
+cost_of c = best_of c.args.table.now.bytes c.args.nodes c.args.words.now (Some c.in-Some.cost) c.goal.ensures c.modes.ensures c.in-Some.ensures
 
-pub best-cost-requires : goal.best-cost-requires
-best-cost-requires c = best-room c.requires c.modes.result c.modes.ensures
+pub best-requires : goal.best-requires
+best-requires c = best-room c.requires c.modes.result c.modes.ensures
 
-pub returns-then-charge : goal.returns-then-charge
-returns-then-charge c =
-    read_none c.requires c.best-cost.result (best_of (goal.at.returns-then-charge c).After-best-cost) c.if-charge.true c.args.route.now
+pub returns-in_default : goal.returns-in_default
+returns-in_default c =
+    read_none c.requires (best_of c.args.table.now.bytes c.args.nodes c.args.words.now None c.goal.ensures c.modes.ensures c.in_default.ensures) c.args.route.now
 
-pub returns-then-route-steps : goal.returns-then-route-steps
-returns-then-route-steps c =
-    read_short c.requires c.best-cost.result (best_of (goal.at.returns-then-route-steps c).After-best-cost) c.if-charge.false c.args.route.now c.if-route-steps.true
+pub returns-then-route-cost : goal.returns-then-route-cost
+returns-then-route-cost c =
+    read_short c.requires (cost_of (goal.at.returns-then-route-cost c).In-Some) c.args.route.now c.if-route-cost.true
+
+pub invariant_of-walk : goal.invariant_of-walk
+invariant_of-walk c = record {
+  setting =
+      (walk-ready c.requires (cost_of (goal.at.invariant_of-walk c).In-Some) c.args.route.now c.if-route-cost.false c.space_of-space.result
+      c.space_of-space.ensures).setting;
+}
 
 pub walk-requires : goal.walk-requires
 walk-requires c =
-    walk-ready c.requires c.best-cost.result (best_of (goal.at.walk-requires c).After-best-cost) c.if-charge.false c.args.route.now c.if-route-steps.false c.space_of.result
-    c.space_of.ensures
+    walk-ready c.requires (cost_of (goal.at.walk-requires c).In-Some) c.args.route.now c.if-route-cost.false c.space_of-space.result
+    c.space_of-space.ensures
 
 pub returns : goal.returns
 returns c =
-    read-written c.requires c.best-cost.result (best_of (goal.at.returns c).After-best-cost) c.if-charge.false c.args.route.now c.if-route-steps.false c.space_of.result
-    c.space_of.ensures c.walk.new.words c.walk.new.route c.walk.ensures
+    read-written c.requires (cost_of (goal.at.returns c).In-Some) c.args.route.now c.if-route-cost.false c.space_of-space.result
+    c.space_of-space.ensures c.walk.new.words c.walk.new.route c.walk.ensures

@@ -14,5 +14,5 @@ returns c =
       first-is = ap (λ (x : ℕ). x % 65536) word;
       set_is = ap (λ (x : ℕ). x / 65536 % 16) word;
       steps-are = refl;
-      byte-is = refl;
+      byte-is = ap (λ (n : ℕ). n + 1) c.from.ensures;
     }

@@ -6,10 +6,10 @@ use Rattle.route.proofs.Live.{turns}
 use Rattle.route.proofs.Trailing.{Walking}
 use Rattle.route.proofs.walk.walk.Given as goal
 
-abbrev pub invariant-loop-space : goal.invariant-loop-space
-invariant-loop-space l =
-    (w : WalkReady l.table.bytes l.rules l.space l.initial.words l.initial.route)
+abbrev pub invariant-loop-stand : goal.invariant-loop-stand
+invariant-loop-stand l =
+    (w : WalkReady l.corners.table.now.bytes l.corners.rules.now l.corners.space l.initial.words l.initial.route)
     → Walking w l.words l.route l.stand
 
-abbrev pub decreases-loop-space : goal.decreases-loop-space
-decreases-loop-space l = turns l.space.nodes (length l.initial.route) l.words l.stand.steps
+abbrev pub decreases-loop-stand : goal.decreases-loop-stand
+decreases-loop-stand l = turns l.corners.space.nodes (length l.initial.route) l.words l.stand.steps

@@ -8,6 +8,7 @@ use native.Mathlib.Nat.{mod-lt, div-add-mod'}
 use native.Mathlib.Decide.{dec_lt}
 use native.Mathlib.Omega.{arith}
 use lib.ListN.{get_or}
+use Rattle.std.specs.Prelude.{Option, Some, None}
 use Rattle.semantics.specs.Automaton.{timers}
 use Rattle.semantics.specs.Run.{wait, after, Allowed}
 use Rattle.semantics.specs.Timetable.{Pair, allowed}
@@ -23,7 +24,7 @@ use Rattle.minutes.specs.Edges.{state_of}
 use Rattle.states.specs.Laws.Bounds.{ceiling-few}
 use Rattle.states.specs.Laws.Shows.{value-below}
 use Rattle.timetable.specs.declared.walk.Step.{Step}
-use Rattle.timetable.specs.Steps.{goal_graph, AtNode, WaitedAt, StandingAt, MoveReady, MoveDone, AfterReady, AfterDone}
+use Rattle.timetable.specs.Steps.{goal_graph, AtNode, WaitedAt, StandingAt, MoveReady, MoveDone, AfterReady, NoAfter, AfterDone}
 use Rattle.timetable.proofs.Tightness.{node-mode, wait-most}
 
 -- A label by its minutes and its move.
@@ -109,21 +110,17 @@ module _ {t rs : List ℕ} {s : States} {ws : List ℕ} {x : Source} {label : �
       few = (label-parts label).1;
     }
 
-    -- The first move after the wait, or none.
-    pub after-move : b ≡ true → {r : Step} → MoveDone t rs s later (label % 64) ws r → AfterDone t rs s x label ws r
-    after-move is {r} moved = record {
-      few = moved.few;
-      is-first = λ v n k.
-          rw ((label-parts label).0, done.pairs-are) at (moved.is-first v (label / 64) n (waited-at n k done tested (minutes-few few) is));
-    }
+    pub after_none : b ≡ false → NoAfter t rs s x label ws
+    after_none is v n k y l low high a = no_edge n k done tested is y l (omega (arith, label-parts label, label-parts y.label))
 
-    pub after_none : b ≡ false → AfterDone t rs s x label ws (record { made = 64; node = 0 })
-    after_none is = record {
-      few = omega arith;
-      is-first = λ v n k. record {
-        from = omega (arith, label-parts label);
-        upto = omega arith;
-        tight = λ h. absurd (omega arith);
-        none_before = λ y l low high a. no_edge n k done tested is y l (omega (arith, label-parts label, label-parts y.label));
-      };
-    }
+-- The first move after the wait, or none.
+pub after-move :
+    {t rs : List ℕ} (s : States) (ws : List ℕ) {x later : Source} {label : ℕ} → WaitDone t x (label / 64) later → {b : Bool} → StaysDone rs later.at b
+    → label < 1024 → b ≡ true → (r : Option Step) → MoveDone t rs s later (label % 64) ws r → AfterDone t rs s x label ws r
+after-move s ws {label = label} done tested few is None moved = λ v n k.
+    rw ((label-parts label).0, done.pairs-are) at (moved v (label / 64) n (waited-at n k done tested (minutes-few few) is))
+after-move s ws {label = label} done tested few is (Some m) moved = record {
+  few = moved.few;
+  is-first = λ v n k.
+      rw ((label-parts label).0, done.pairs-are) at (moved.is-first v (label / 64) n (waited-at n k done tested (minutes-few few) is));
+}

@@ -1,7 +1,7 @@
 -- From what was found to the outcome of the call.
 -- Assumes nothing.
-use mathlib.Core.Path.{◌≡◌, refl, sym, ap, subst, ◌∙◌}
-use mathlib.Core.Bool.{Bool, true, false, cond, not}
+use mathlib.Core.Path.{◌≡◌, sym, ap, subst, ◌∙◌}
+use mathlib.Core.Bool.{Bool, true, false, cond}
 use mathlib.Core.List.{List, ◌++◌}
 use Prim.Native.Nat.{ℕ, ◌*◌}
 use lib.ListN.{length, drop, replicate}
@@ -19,30 +19,21 @@ use Rattle.timetable.specs.Promise.{KeepsTimetable}
 use Rattle.timetable.specs.Keeps.{timetabled-keeps}
 use Rattle.timetable.specs.Found.{ReadOff}
 
--- The test, turned round.
-is-not : (b : Bool) → not b ≡ true → b ≡ false
-is-not true e = sym e
-is-not false e = refl
-
-is-so : (b : Bool) → not b ≡ false → b ≡ true
-is-so true e = refl
-is-so false e = sym e
-
 module _ (t ws rs : List ℕ) where
   -- 12.
-  pub table-strict : (b : Bool) → b ≡ closed_table (automaton_of t) → not b ≡ true → outcome (Refused 12) ws rs ≡ timetabled_table (automaton_of t) ws rs
+  pub table-strict : closed_table (automaton_of t) ≡ false → outcome (Refused 12) ws rs ≡ timetabled_table (automaton_of t) ws rs
   unfolding timetabled_table
-  table-strict b is strict =
+  table-strict strict =
       let a = automaton_of t in
-      sym (ap (λ (c : Bool). cond c (after_room (answered a (length ws)) a ws rs) (outcome (Refused 12) ws rs)) (sym is ∙ is-not b strict))
+      sym (ap (λ (c : Bool). cond c (after_room (answered a (length ws)) a ws rs) (outcome (Refused 12) ws rs)) strict)
 
   -- A closed table.
-  module _ (b : Bool) (is : b ≡ closed_table (automaton_of t)) (closed : not b ≡ false) where
+  module _ (closed : closed_table (automaton_of t) ≡ true) where
     after-room : after_room (answered (automaton_of t) (length ws)) (automaton_of t) ws rs ≡ timetabled_table (automaton_of t) ws rs
     unfolding timetabled_table
     after-room =
         let a = automaton_of t in
-        sym (ap (λ (c : Bool). cond c (after_room (answered a (length ws)) a ws rs) (outcome (Refused 12) ws rs)) (sym is ∙ is-so b closed))
+        sym (ap (λ (c : Bool). cond c (after_room (answered a (length ws)) a ws rs) (outcome (Refused 12) ws rs)) closed)
 
     -- 8 and 9.
     pub table-refused : (n : ℕ) → answered (automaton_of t) (length ws) ≡ Searched-as-Refused n → outcome (Refused n) ws rs ≡ timetabled_table (automaton_of t) ws rs
@@ -50,9 +41,9 @@ module _ (t ws rs : List ℕ) where
 
     -- An answer read off the words of a search, which are cleared then.
     pub table-found :
-        (n : ℕ) (ws₁ vs rs₁ : List ℕ) (r : Answer) → answered (automaton_of t) (length ws) ≡ Searched-as-Nodes n → ReadOff t ws rs ws₁ rs₁ r
+        (n : ℕ) {ws₁ vs rs₁ : List ℕ} {r : Answer} → answered (automaton_of t) (length ws) ≡ Searched-as-Nodes n → ReadOff t ws rs ws₁ rs₁ r
         → vs ≡ cleared (automaton_of t) ws₁ → outcome r vs rs₁ ≡ timetabled_table (automaton_of t) ws rs
-    table-found n ws₁ vs rs₁ r e off clear =
+    table-found n {ws₁} {vs} {rs₁} {r} e off clear =
         let a = automaton_of t in
         let f = answer-fits a (length ws) n e in
         let rest : drop (2 * n) ws₁ ≡ drop (2 * n) ws = rw f.counted off.words.rest in
@@ -64,8 +55,8 @@ module _ (t ws rs : List ℕ) where
 
 -- A call with the outcome of the definitions keeps what is promised.
 pub outcome-keeps :
-    (bytes ws ws' rs rs' : List ℕ) (r : Answer) → outcome r ws' rs' ≡ timetabled bytes ws rs → KeepsTimetable bytes ws rs' r
-outcome-keeps bytes ws ws' rs rs' r e =
+    (bytes ws rs : List ℕ) {ws' rs' : List ℕ} {r : Answer} → outcome r ws' rs' ≡ timetabled bytes ws rs → KeepsTimetable bytes ws rs' r
+outcome-keeps bytes ws rs {rs' = rs'} {r = r} e =
     subst (λ (o : Outcome). KeepsTimetable bytes ws o.route o.answer) (sym e) (timetabled-keeps bytes ws rs)
 
 -- From the judgement of the bytes: a refusal of the reader, and a table that was read.

@@ -1,12 +1,12 @@
 -- What a search for a timetable found is the answer: no route, a timetable for which there are too few bytes, or the timetable written.
 -- Assumes nothing.
 use mathlib.Core.Path.{◌≡◌, refl, sym, ap, ap₂, subst, ◌∙◌}
-use mathlib.Core.Logic.{◌≢◌, inl, inr}
+use mathlib.Core.Logic.{inl, inr}
 use mathlib.Core.List.{List, [], ◌∷◌, ◌++◌, map}
 use Prim.Native.Nat.{ℕ, ◌+◌, ◌*◌, ◌-◌, ◌/◌, ◌≤◌, ◌<◌}
 use native.Mathlib.Nat.{mul-le-mul, mul-le-mul_left, mul-one}
 use native.Mathlib.Omega.{arith}
-use borrow.Author.Tests.{eq-eqb, ne_eqb, le-leb, lt-leb}
+use borrow.Author.Tests.{le-leb, lt-leb}
 use lib.ListN.{length, drop, length-map}
 use lib.Seq.{drop-drop}
 use Rattle.semantics.specs.Automata.Proper.{Proper}
@@ -15,7 +15,7 @@ use Rattle.semantics.specs.Order.{Cost, cost, ◌≼◌, Best as BestOf}
 use Rattle.semantics.specs.NodeCount.{cell_count, corner_count, node_count}
 use Rattle.semantics.specs.Answer.{Answer as Best, no_route, route}
 use Rattle.semantics.specs.Timetable.{Timetable as IsTimetable, bytes_of, state_count, timetable}
-use Rattle.semantics.specs.Graph.Path.{Graph, labels_of, cost_of, Least, unreached, reached, infinity}
+use Rattle.semantics.specs.Graph.Path.{Graph, labels_of, cost_of, Least, unreached, reached}
 use Rattle.semantics.specs.Graph.Distance.{distance}
 use Rattle.semantics.specs.Graph.MinuteGraph.{minute_graph, pair_of}
 use Rattle.semantics.specs.Paths.Cost.{cost-same, cost-antisymm}
@@ -32,12 +32,14 @@ use Rattle.rules.specs.Rules.{IsRules}
 use Rattle.regions.specs.Laws.Nodes.{corners-few}
 use Rattle.space.specs.Laws.Shares.{few-modes, table-timers}
 use Rattle.search.specs.Outcome.{most_nodes, cleared}
+use Rattle.search.specs.Searches.{SearchDone}
+use Rattle.std.specs.Prelude.{Option, Some, None}
 use Rattle.near.specs.declared.Cost.{Cost as CostHeld}
 use Rattle.near.specs.Near.{cost_entry}
 use Rattle.states.specs.declared.States.{States}
 use Rattle.states.specs.States.{IsStates}
-use Rattle.minutes.specs.Edges.{Setting}
-use Rattle.minutes.specs.Finding.{SearchReady, SearchDone}
+use Rattle.minutes.specs.Edges.{Setting, graph_of, rooted_of}
+use Rattle.minutes.specs.Laws.Searchable.{size}
 use Rattle.states.specs.Laws.Bounds.{ceiling-few}
 use Rattle.timetable.specs.Answers.{Refused, NoRoute, Timetable}
 use Rattle.timetable.specs.Timetabled.{outcome, told}
@@ -143,100 +145,100 @@ module _ (a : Automaton) (ok : Proper a) (l : ℕ) where
           same = cost-antisymm (cost D (length ks)) (cost C (2 * n)) high low
 
 -- A search of a table for its goal.
-module _ {t rules ws : List ℕ} {nodes : ℕ} {s : States} (f : FindReady t nodes ws) (made : IsRules t rules) (is : IsStates t s) where
-  few : node_count (automaton_of t) ≤ most_nodes
-  few = omega (arith, f.fits.few, f.fits.counted)
-
+module _ {t rules ws : List ℕ} {s : States} (is-table : IsTable t) (f : FindReady t ws) (made : IsRules t rules) (is : IsStates t s) where
   -- There are at least as many nodes as states.
-  pub states-within : s.count ≤ node_count (automaton_of t)
+  states-within : s.count ≤ node_count (automaton_of t)
   unfolding node_count state_count
   states-within =
       let a = automaton_of t in
       let n = length a.modes * cell_count a.ceilings in
-      let one : 1 ≤ corner_count (timers a) 1 = (corners-few (timers a) (table-timers t f.is-table).1).0 in
+      let one : 1 ≤ corner_count (timers a) 1 = (corners-few (timers a) (table-timers t is-table).1).0 in
       omega (arith, is.count-is, mul-le-mul_left (length a.modes * cell_count a.ceilings) one, mul-one (length a.modes * cell_count a.ceilings))
 
-  setting : Setting t rules s
+  pub setting : Setting t rules s
   setting = record {
-    is-table = f.is-table;
+    is-table = is-table;
     is-rules = made;
     is-states = is;
-    few = omega (arith, is.count-is, states-few t f.is-table few);
+    few = omega (arith, is.count-is, states-few t is-table f.few);
   }
 
-  pub search-ready : SearchReady t rules s ws
-  search-ready = record { setting = setting; room = omega (arith, states-within, f.fits.counted, f.fits.room) }
+  graph-within : (goal : ℕ) → (graph_of t goal).nodes ≤ node_count (automaton_of t)
+  graph-within goal = omega (arith, states-within, size setting goal)
+
+  pub search-ready : (goal : ℕ) → 2 * (graph_of t goal).nodes ≤ length ws
+  search-ready goal = omega (arith, graph-within goal, f.room)
 
   -- It was made.
-  module _ {goal : ℕ} {ws₁ : List ℕ} (r : CostHeld) (own : goal ≡ (automaton_of t).goal) (done : SearchDone t s goal ws ws₁ r) where
+  module _ {goal : ℕ} {ws₁ : List ℕ} {r : Option CostHeld} (own : goal ≡ (automaton_of t).goal) (done : SearchDone (rooted_of t goal) ws ws₁ r) where
     proper : Proper (automaton_of t)
-    proper = table-proper t f.is-table
+    proper = table-proper t is-table
 
-    found : SearchDone t s (automaton_of t).goal ws ws₁ r
+    found : SearchDone (rooted_of t (automaton_of t).goal) ws ws₁ r
     found = rw own at done
 
     -- The words behind the first 2E are untouched.
     rest-kept : RestKept t ws ws₁
     rest-kept =
-        let k = node_count (automaton_of t) - s.count in
-        let more : 2 * s.count + 2 * k ≡ 2 * node_count (automaton_of t) = omega (arith, states-within) in
+        let n = (goal_graph t).nodes in
+        let k = node_count (automaton_of t) - n in
+        let more : 2 * n + 2 * k ≡ 2 * node_count (automaton_of t) = omega (arith, graph-within (automaton_of t).goal) in
         record {
           rest = subst (λ (m : ℕ). drop m ws₁ ≡ drop m ws) more
-              (sym (drop-drop (2 * k) (2 * s.count) ws₁) ∙ ap (drop (2 * k)) found.rest ∙ drop-drop (2 * k) (2 * s.count) ws);
+              (sym (drop-drop (2 * k) (2 * n) ws₁) ∙ ap (drop (2 * k)) found.rest ∙ drop-drop (2 * k) (2 * n) ws);
           kept = found.kept;
         }
 
     -- There is none.
-    pub find_none : r.charge ≡ infinity → (rs : List ℕ) → ReadOff t ws rs ws₁ rs NoRoute
+    pub find_none : r ≡ None → (rs : List ℕ) → ReadOff t ws rs ws₁ rs NoRoute
     find_none none rs =
         let a = automaton_of t in
-        let no : cost_entry r ≡ unreached = rw (eq-eqb r.charge infinity none) refl in
-        let q = none_found a proper a.goal (sym found.cost-is ∙ no) in
+        let q = none_found a proper a.goal (sym found.cost-is ∙ ap cost_entry none) in
         record { is-answer = λ vs. sym (ap (λ (x : Best). told a x vs rs) q); words = rest-kept }
 
     -- There is one.
-    module _ (known : r.charge ≢ infinity) (rs : List ℕ) where
-      reached-at : distance (goal_graph t) 0 ≡ reached (cost r.charge r.steps)
-      reached-at = sym found.cost-is ∙ rw (ne_eqb r.charge infinity known) refl
+    module _ {c : CostHeld} (some : r ≡ Some c) (rs : List ℕ) where
+      reached-at : distance (goal_graph t) 0 ≡ reached (cost c.charge c.steps)
+      reached-at = sym found.cost-is ∙ ap cost_entry some
 
       -- Its pairs have more bytes than there are.
-      pub find-short : length rs < 2 * r.steps → ReadOff t ws rs ws₁ rs (Refused 10)
+      pub find-short : length rs < 2 * c.steps → ReadOff t ws rs ws₁ rs (Refused 10)
       find-short short =
           let a = automaton_of t in
-          let o = some-found a proper a.goal r.charge r.steps reached-at in
+          let o = some-found a proper a.goal c.charge c.steps reached-at in
           record {
-            is-answer = λ vs. sym (ap (λ (x : Best). told a x vs rs) o.1 ∙ told-short a r.charge o.0 vs rs (omega (arith, o.2)));
+            is-answer = λ vs. sym (ap (λ (x : Best). told a x vs rs) o.1 ∙ told-short a c.charge o.0 vs rs (omega (arith, o.2)));
             words = rest-kept;
           }
 
       -- There are bytes for them, so that they can be written.
-      module _ (room : 2 * r.steps ≤ length rs) where
+      module _ (room : 2 * c.steps ≤ length rs) where
         pub walk-ready : WalkReady t rules s ws₁ rs
         walk-ready = record {
           setting = setting;
-          words = omega (arith, f.fits.counted, f.fits.room, found.kept);
+          words = omega (arith, f.room, found.kept);
           near = found.near;
-          best = cost r.charge r.steps;
+          best = cost c.charge c.steps;
           is-best = reached-at;
           room = room;
         }
 
         -- They were.
-        pub find-written : {ws₂ rs₂ : List ℕ} → WalkDone t s ws₁ rs ws₂ rs₂ → ReadOff t ws rs ws₂ rs₂ (Timetable r.charge r.steps)
+        pub find-written : {ws₂ rs₂ : List ℕ} → WalkDone t s ws₁ rs ws₂ rs₂ → ReadOff t ws rs ws₂ rs₂ (Timetable c.charge c.steps)
         find-written {ws₂} {rs₂} w =
             let a = automaton_of t in
             let ks = w.bytes in
-            let c = cost r.charge r.steps in
+            let b = cost c.charge c.steps in
             let found-cost = w.is-best in
             let is-cost = reached-at in
-            let same : w.best ≡ c = cc in
-            let steps : length ks ≡ 2 * r.steps = w.counted ∙ ap (λ (b : Cost). 2 * b.steps) same in
+            let same : w.best ≡ b = cc in
+            let steps : length ks ≡ 2 * c.steps = w.counted ∙ ap (λ (b : Cost). 2 * b.steps) same in
             let stored : rs₂ ≡ ks ++ drop (length ks) rs = w.stored ∙ ap (λ (b : Cost). ks ++ drop (2 * b.steps) rs) same ∙ ap (λ (n : ℕ). ks ++ drop n rs) (sym steps) in
-            let answer-is : timetable a a.goal ≡ route r.charge ks = w.is-timetable ∙ ap (λ (b : Cost). route b.charge ks) same in
-            let half : r.steps ≡ length ks / 2 = omega (arith, steps) in
+            let answer-is : timetable a a.goal ≡ route c.charge ks = w.is-timetable ∙ ap (λ (b : Cost). route b.charge ks) same in
+            let half : c.steps ≡ length ks / 2 = omega (arith, steps) in
             record {
               is-answer = λ vs.
-                  ap₂ (λ (n : ℕ) (l : List ℕ). outcome (Timetable r.charge n) (cleared a vs) l) half stored
-                  ∙ sym (ap (λ (x : Best). told a x vs rs) answer-is ∙ told-full a r.charge ks vs rs (omega (arith, steps)));
+                  ap₂ (λ (n : ℕ) (l : List ℕ). outcome (Timetable c.charge n) (cleared a vs) l) half stored
+                  ∙ sym (ap (λ (x : Best). told a x vs rs) answer-is ∙ told-full a c.charge ks vs rs (omega (arith, steps)));
               words = record { rest = w.words.rest ∙ rest-kept.rest; kept = w.words.kept ∙ rest-kept.kept };
             }

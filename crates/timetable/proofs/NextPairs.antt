@@ -1,6 +1,6 @@
 -- The pairs of the node of a walk, looked at from a label on, minute after minute, for the first whose edge is tight.
 -- Assumes nothing.
-use mathlib.Core.Path.{◌≡◌, refl, ap, subst, ◌∙◌}
+use mathlib.Core.Path.{◌≡◌, refl, ap, ◌∙◌}
 use mathlib.Core.List.{List}
 use Prim.Native.Nat.{ℕ, ◌+◌, ◌*◌, ◌-◌, ◌/◌, ◌%◌, ◌≤◌, ◌<◌}
 use native.Mathlib.Decide.{dec_lt}
@@ -12,28 +12,20 @@ use Rattle.table.specs.Theorems.Access.{get_or-pad}
 use Rattle.states.specs.declared.States.{States}
 use Rattle.states.specs.declared.State.{State}
 use Rattle.minutes.specs.declared.waits.Source.{Source}
-use Rattle.states.specs.States.{most_timers, most_nodes, StatesReady, IsState, StandsAt}
+use Rattle.states.specs.States.{most_timers, IsState, StandsAt}
 use Rattle.minutes.specs.Edges.{state_of}
 use Rattle.states.specs.Laws.Bounds.{timers-some, ceiling-few}
-use Rattle.states.specs.Laws.Shows.{value-below}
 use Rattle.timetable.specs.declared.walk.Step.{Step}
-use Rattle.timetable.specs.Steps.{goal_graph, Along, Tight, FirstTight, AtNode, StandingAt, AfterDone, no_pair}
+use Rattle.timetable.specs.Steps.{goal_graph, NoneTight, FirstTight, AtNode, StandingAt, AfterFound, NoAfter, no_pair}
 use Rattle.timetable.proofs.AfterWaits.{label-parts, edge-waits}
 
 -- The labels from `low` on and below `label`: no edge of theirs is tight, at any node of which the struct is.
 pub record NoneBelow (t rs : List ℕ) (s : States) (x : Source) (ws : List ℕ) (low label : ℕ) : Type 0 where
   pub above : low ≤ label
   pub few : label ≤ 1024
-  pub silent :
-      (v : ℕ) → AtNode t rs s ws v → StandingAt t x ws v → (y : Edge) → Leaves (goal_graph t) v y → low ≤ y.label → y.label < label
-      → Along ws v x.pairs y → ⊥
+  pub silent : (v : ℕ) → AtNode t rs s ws v → StandingAt t x ws v → NoneTight t ws v x.pairs low label
 
 module _ {t rs : List ℕ} {s : States} {ws : List ℕ} {v : ℕ} (n : AtNode t rs s ws v) where
-  pub node-ready : StatesReady s × (v < most_nodes)
-  node-ready =
-      let z = n.setting in
-      (record { table = t; is-table = z.is-table; is-states = z.is-states }, omega (arith, n.inside, z.few))
-
   ceiling-is : get_or s.ceilings 0 0 ≡ get_or (automaton_of t).ceilings 0 0
   ceiling-is = ap (λ (l : List ℕ). get_or l 0 0) n.setting.is-states.ceilings-are ∙ get_or-pad most_timers (automaton_of t).ceilings 0
 
@@ -47,11 +39,6 @@ module _ {t rs : List ℕ} {s : States} {ws : List ℕ} {v : ℕ} (n : AtNode t 
     first-is : get_or at.values 0 0 ≡ (state_of t v).value 0
     first-is = node-stands.shows.there 0 (omega (arith, timers-some t n.setting.is-table))
 
-    -- Timer 0 is not above its ceiling.
-    pub value-first : get_or at.values 0 0 ≤ get_or s.ceilings 0 0
-    value-first =
-        omega (arith, first-is, ceiling-is, value-below (automaton_of t) v 0 (omega (arith, timers-some t n.setting.is-table)))
-
     pub node-standing : (pairs : ℕ) → StandingAt t (record { at = at; charge = charge_at ws v; pairs = pairs }) ws v
     node-standing pairs = record { stands = node-stands; charge-is = refl }
 
@@ -64,15 +51,10 @@ module _ {t rs : List ℕ} {s : States} {ws : List ℕ} {v : ℕ} (n : AtNode t 
     -- Nothing is tight up to the longest wait.
     pub next-none :
         {low label : ℕ} (pairs : ℕ) → NoneBelow t rs s (record { at = at; charge = charge_at ws v; pairs = pairs }) ws low label
-        → get_or s.ceilings 0 0 - get_or at.values 0 0 < label / 64 → FirstTight t ws v pairs low no_pair no_pair 0
-    next-none {low} {label} pairs h past = record {
-      from = omega (arith, h.above, h.few);
-      upto = omega arith;
-      tight = λ l. absurd (omega arith);
-      none_before = λ y l above below a.
-          h.silent v n (node-standing pairs) y l above
-          (omega (arith, edge-within y l, label-parts label, label-parts y.label, past)) a;
-    }
+        → get_or s.ceilings 0 0 - get_or at.values 0 0 < label / 64 → NoneTight t ws v pairs low no_pair
+    next-none {low} {label} pairs h past y l above below a =
+        h.silent v n (node-standing pairs) y l above
+        (omega (arith, edge-within y l, label-parts label, label-parts y.label, past)) a
 
 module _ {t rs : List ℕ} {s : States} {x : Source} {ws : List ℕ} where
   -- No label was looked at yet.
@@ -80,32 +62,36 @@ module _ {t rs : List ℕ} {s : States} {x : Source} {ws : List ℕ} where
   none-begins few = record { above = omega arith; few = few; silent = λ v n k y l low high a. omega arith }
 
   -- The labels of one more wait were.
-  module _ {low label : ℕ} (h : NoneBelow t rs s x ws low label) {r : Step} (done : AfterDone t rs s x label ws r) where
+  module _ {low label : ℕ} (h : NoneBelow t rs s x ws low label) (few : label < 1024) where
+    -- Those before the one at hand, and those from it on.
     silent-to :
-        (to : ℕ) → to ≡ 64 * (label / 64) + r.made → (v : ℕ) → AtNode t rs s ws v → StandingAt t x ws v → (y : Edge) → Leaves (goal_graph t) v y
-        → low ≤ y.label → y.label < to → Along ws v x.pairs y → ⊥
-    silent-to to is v n k y l above below a = at (dec_lt y.label label)
+        {to : ℕ} (v : ℕ) → AtNode t rs s ws v → StandingAt t x ws v → NoneTight t ws v x.pairs label to → NoneTight t ws v x.pairs low to
+    silent-to v n k later y l above below a = at (dec_lt y.label label)
       where
         at : Dec (y.label < label) → ⊥
         at (yes b) = h.silent v n k y l above b a
-        at (no b) = (done.is-first v n k).none_before y l (omega arith) (omega arith) a
+        at (no b) = later y l (omega arith) below a
 
-    pub none-later : label < 1024 → 64 ≤ r.made → NoneBelow t rs s x ws low (label - label % 64 + 64)
-    none-later few past = record {
-      above = omega (arith, h.above, label-parts label);
-      few = omega (arith, label-parts label);
-      silent = silent-to (label - label % 64 + 64) (omega (arith, label-parts label, done.few));
-    }
+    -- The wait's, which begins at this label.
+    module _ (wait : ℕ) (begins : wait + label % 64 ≡ label) where
+      whole : 64 * (label / 64) ≡ wait
+      whole = omega (arith, label-parts label, begins)
 
-    pub next-found :
-        {v : ℕ} → AtNode t rs s ws v → StandingAt t x ws v → label < 1024 → r.made < 64
-        → FirstTight t ws v x.pairs low no_pair (label - label % 64 + r.made) r.node
-    next-found {v} n k few some =
-        let first = done.is-first v n k in
-        let same : 64 * (label / 64) + r.made ≡ label - label % 64 + r.made = omega (arith, label-parts label) in
-        record {
-          from = omega (arith, h.above, first.from, same);
-          upto = omega (arith, label-parts label);
-          tight = λ l. subst (λ (i : ℕ). Tight t ws v x.pairs i r.node) same (first.tight (omega arith));
-          none_before = silent-to (label - label % 64 + r.made) (omega (arith, same)) v n k;
-        }
+      pub none-later : NoAfter t rs s x label ws → NoneBelow t rs s x ws low (wait + 64)
+      none-later none = record {
+        above = omega (arith, h.above, label-parts label, begins);
+        few = omega (arith, label-parts label, begins);
+        silent = λ v n k. silent-to v n k (rw whole at (none v n k));
+      }
+
+      pub next-found :
+          {r : Step} → AfterFound t rs s x label ws r → {v : ℕ} → AtNode t rs s ws v → StandingAt t x ws v
+          → FirstTight t ws v x.pairs low no_pair (wait + r.made) r.node
+      next-found {r} done {v} n k =
+          let first = rw whole at (done.is-first v n k) in
+          record {
+            from = omega (arith, h.above, first.from);
+            below = omega (arith, done.few, begins);
+            tight = first.tight;
+            none_before = silent-to v n k first.none_before;
+          }

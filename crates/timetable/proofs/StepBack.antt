@@ -3,7 +3,7 @@
 use mathlib.Core.Path.{◌≡◌, refl, sym, ap, subst, subst₂, ◌∙◌}
 use mathlib.Core.Logic.{◌≢◌}
 use mathlib.Core.List.{List, [], ◌∷◌, ◌++◌}
-use Prim.Native.Nat.{ℕ, suc, ◌+◌, ◌*◌, ◌-◌, ◌/◌, ◌%◌, ◌≤◌, ◌<◌}
+use Prim.Native.Nat.{ℕ, suc, ◌+◌, ◌*◌, ◌-◌, ◌/◌, ◌%◌, ◌<◌}
 use native.Mathlib.Decide.{ℕ_discrete}
 use native.Mathlib.Omega.{arith}
 use lib.ListN.{length, get_or, take, set, length-set}
@@ -17,20 +17,17 @@ use Rattle.table.specs.Held.{automaton_of}
 use Rattle.states.specs.declared.States.{States}
 use Rattle.route.proofs.Live.{turns, turns-backtrack}
 use Rattle.timetable.specs.declared.walk.Stand.{Stand}
-use Rattle.timetable.specs.declared.walk.Next.{Next}
-use Rattle.timetable.specs.Steps.{goal_graph, no_pair, NextDone}
+use Rattle.timetable.specs.Steps.{goal_graph, no_pair, NoNext}
 use Rattle.timetable.specs.Walk.{WalkReady, BacktrackReady, Backtracked}
 use Rattle.timetable.proofs.PairBytes.{label_bytes, bytes-before, last-minutes, last_made}
 use Rattle.timetable.proofs.Walking.{Walking, label-few, ground, stack-fits, target-goal, table_same, within, entry_here, at_here, words-room, tried}
 
 module _
     {t rs : List ℕ} {s : States} {ws₀ bs₀ : List ℕ} (w : WalkReady t rs s ws₀ bs₀) {ws bs : List ℕ} {z : Stand} (k : Walking w ws bs z)
-    (r : Next) (next : NextDone t rs s z ws r) (none : no_pair ≤ r.label)
+    (none : NoNext t z ws)
     (far : z.node / s.cells ≢ (automaton_of t).goal) where
   all-tried : Walk (goal_graph t) 0 (table ws) k.labels k.at no_pair
-  all-tried =
-      let all : r.label ≡ no_pair = omega (arith, next.upto) in
-      subst (λ (b : ℕ). Walk (goal_graph t) 0 (table ws) k.labels k.at b) all (tried w k r next)
+  all-tried = tried w k none
 
   away : Target (goal_graph t) (k.at (length k.labels)) → ⊥
   away e = far (target-goal w z.node (subst (Target (goal_graph t)) (at_here w k) e))
@@ -113,7 +110,7 @@ module _
       get_or-set_other ws (2 * z.node) (2 * s.count + i) infinity 0 (λ e. let b = (entry_here w k).0 in omega arith) ∙ k.stack i h
 
   -- The pair was taken back.
-  module _ (vs : List ℕ) (y : Stand) (f : Backtracked s.count z ws bs vs y) where
+  module _ {vs : List ℕ} {y : Stand} (f : Backtracked s.count z ws bs vs y) where
     node-here : k.at y.depth ≡ y.node
     node-here =
         ap k.at f.depth_is

@@ -20,7 +20,7 @@ use Rattle.states.specs.declared.States.{States}
 use Rattle.route.proofs.Live.{turns, turns-advance}
 use Rattle.timetable.specs.declared.walk.Stand.{Stand}
 use Rattle.timetable.specs.declared.walk.Next.{Next}
-use Rattle.timetable.specs.Steps.{goal_graph, Tight as TightPair, no_pair, NextDone}
+use Rattle.timetable.specs.Steps.{goal_graph, Tight as TightPair, NextFound}
 use Rattle.timetable.specs.Walk.{WalkReady, AdvanceReady, Advanced}
 use Rattle.timetable.proofs.PairBytes.{bytes-more, take-two}
 use Rattle.timetable.proofs.Walking.{Walking, nodes-are, label-few, ground, stack-fits, table_same, entry_here, at_here, words-room, here-tight, tried}
@@ -38,10 +38,10 @@ module _ (f : ℕ → ℕ) (k x : ℕ) where
 
 module _
     {t rs : List ℕ} {s : States} {ws₀ bs₀ : List ℕ} (w : WalkReady t rs s ws₀ bs₀) {ws bs : List ℕ} {z : Stand} (k : Walking w ws bs z)
-    (r : Next) (next : NextDone t rs s z ws r) (some : r.label < no_pair) where
+    {r : Next} (next : NextFound t z ws r) where
   -- The edge of the pair.
   pair : TightPair t ws z.node (z.depth + 1) r.label r.node
-  pair = next.tight some
+  pair = next.tight
 
   leaves : Leaves (goal_graph t) (k.at (length k.labels)) pair.edge
   leaves = subst (λ (v : ℕ). Leaves (goal_graph t) v pair.edge) (sym (at_here w k)) pair.leaves
@@ -54,7 +54,7 @@ module _
 
   -- So the timetable is not yet written.
   pub depth_below : z.depth < w.best.steps
-  depth_below = omega (arith, k.counted, walk-short (ground w) (tried w k r next) pair.edge leaves pair.labelled tight)
+  depth_below = omega (arith, k.counted, walk-short (ground w) (tried w k next.none_before) pair.edge leaves pair.labelled tight)
 
   pub advance-ready : AdvanceReady s.count z r ws bs
   advance-ready = record {
@@ -79,7 +79,7 @@ module _
 
   longer : Walk (goal_graph t) 0 (table ws) labels' at' 0
   longer =
-      walk-further (ground w) (tried w k r next) pair.edge leaves pair.labelled tight at'
+      walk-further (ground w) (tried w k next.none_before) pair.edge leaves pair.labelled tight at'
       (λ i h. sym (at_before i (omega (arith, k.counted)))) (at_last (suc (length k.labels)) (omega (arith, k.counted)) ∙ sym pair.leads)
 
   -- The words, the bytes and the place then.
@@ -146,7 +146,7 @@ module _
   }
 
   -- The pair was taken.
-  module _ (vs cs : List ℕ) (y : Stand) (f : Advanced s.count z r ws bs vs cs y) where
+  module _ {vs cs : List ℕ} {y : Stand} (f : Advanced s.count z r ws bs vs cs y) where
     pub walking-advances : Walking w vs cs y
     walking-advances =
         subst (λ (x : Stand). Walking w vs cs x) (sym f.stand)

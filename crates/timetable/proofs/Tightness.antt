@@ -18,15 +18,18 @@ use Rattle.semantics.specs.Timetables.Edges.{minute-closed}
 use Rattle.table.specs.Fields.{most_price}
 use Rattle.table.specs.Held.{automaton_of}
 use Rattle.table.specs.Theorems.Access.{table-proper, rate-within, price-within}
-use Rattle.rules.specs.Rules.{none}
-use Rattle.space.specs.Moves.{OpenMove, OpenFrom}
+use Rattle.std.specs.Prelude.{Option, Some}
+use Rattle.rules.specs.Rules.{none, as_move, after_of, IsRules}
+use Rattle.rules.specs.Laws.Moves.{some-move}
+use Rattle.space.specs.Moves.{NextDone, OpenMove, OpenFrom, OpenNamed}
+use Rattle.space.proofs.MovesFrom.{after-open}
 use Rattle.steps.proofs.Sets.{refused}
 use Rattle.states.specs.declared.States.{States}
 use Rattle.minutes.specs.declared.waits.Source.{Source}
 use Rattle.states.specs.States.{LeadDone}
 use Rattle.minutes.specs.Edges.{state_of}
 use Rattle.minutes.specs.Laws.Pairs.{edge_at, edge-weight, ShownAfter, none_between, open-leaves, edge-labelled}
-use Rattle.timetable.specs.Steps.{goal_graph, TightRoom, Tells, Along, AtNode, WaitedAt, MoveDone}
+use Rattle.timetable.specs.Steps.{goal_graph, TightRoom, Tells, Along, NoneTight, AtNode, WaitedAt, MoveFound, NoMove}
 
 -- The mode of the node at which the walk stands is there; and what so many minutes are charged.
 module _ {t rs : List ℕ} {s : States} {ws : List ℕ} {v : ℕ} (n : AtNode t rs s ws v) where
@@ -39,9 +42,7 @@ module _ {t rs : List ℕ} {s : States} {ws : List ℕ} {v : ℕ} (n : AtNode t 
 -- The pairs of every such wait with the moves from `first` on and before e: no edge of theirs is tight.
 pub record NoneTo (t rs : List ℕ) (s : States) (x : Source) (first : ℕ) (ws : List ℕ) (e : ℕ) : Type 0 where
   pub above : first ≤ e
-  pub silent :
-      (v d : ℕ) → AtNode t rs s ws v → WaitedAt t x ws v d → (y : Edge) → Leaves (goal_graph t) v y → 64 * d + first ≤ y.label
-      → y.label < 64 * d + e → Along ws v x.pairs y → ⊥
+  pub silent : (v d : ℕ) → AtNode t rs s ws v → WaitedAt t x ws v d → NoneTight t ws v x.pairs (64 * d + first) (64 * d + e)
 
 module _ {t rs : List ℕ} {s : States} {x : Source} {ws hs : List ℕ} (twice : hs ≡ map (λ k. 2 * k) x.at.values) where
   module _ {v d : ℕ} (n : AtNode t rs s ws v) (w : WaitedAt t x ws v d) where
@@ -93,28 +94,20 @@ module _ {t rs : List ℕ} {s : States} {x : Source} {ws hs : List ℕ} (twice :
   none_first {first} {e} f = record { above = f.low; silent = λ v d n w y l low high a. none_between (shown n w) (automaton_of t).goal first e f y l low high }
 
   -- All were.
-  pub move-none : {first e : ℕ} → NoneTo t rs s x first ws e → none ≤ e → first < none → MoveDone t rs s x first ws (record { made = 64; node = 0 })
-  move-none {first} {e} h past few = record {
-    few = omega arith;
-    is-first = λ v d n w. record {
-      from = omega arith;
-      upto = omega arith;
-      tight = λ l. absurd (omega arith);
-      none_before = λ y l low high a. h.silent v d n w y l low (omega arith) a;
-    };
-  }
+  pub move-none : {first e : ℕ} → NoneTo t rs s x first ws e → none ≤ e → NoMove t rs s x first ws
+  move-none h past v d n w y l low high a = h.silent v d n w y l low (omega arith) a
 
   -- Move e is not passed over, and its node was tested.
   module _ {first e : ℕ} (h : NoneTo t rs s x first ws e) (some : e < none) (o : OpenMove t rs hs x.at.mode e) {to price : ℕ} {r : Bool}
       (led : LeadDone t x.at.values e to) (priced : price ≡ (move_at (automaton_of t) e).price)
       (tells : Tells ws to (price + x.charge) x.pairs r) where
-    pub move-found : r ≡ true → MoveDone t rs s x first ws (record { made = e; node = to })
+    pub move-found : r ≡ true → MoveFound t rs s x first ws (record { made = e; node = to })
     move-found is = record {
-      few = omega arith;
+      few = some;
       is-first = λ v d n w. record {
         from = omega (arith, h.above);
-        upto = omega arith;
-        tight = λ l. record {
+        below = omega (arith, some);
+        tight = record {
           edge = edge_at t v d e;
           leaves = leaves n w some o;
           labelled = refl;
@@ -139,3 +132,27 @@ module _ {t rs : List ℕ} {s : States} {x : Source} {ws hs : List ℕ} (twice :
             let b : Along ws v x.pairs (edge_at t v d e) = subst (λ (z : Edge). Along ws v x.pairs z) (edge-labelled (shown n w) (automaton_of t).goal e some y l q) a in
             refused (told n w some o priced led tells) fails b
         at v d n w y l low high a (no m) (no q) = none_between (shown n w) (automaton_of t).goal (e + 1) next f y l (omega arith) high
+
+-- What holds at each turn: no edge of the moves before the next one is tight, which is not passed over.
+pub record Turn (t rs : List ℕ) (s : States) (x : Source) (first : ℕ) (ws hs : List ℕ) (next : Option ℕ) : Type 0 where
+  pub byte : ℕ
+  pub named : next ≡ as_move byte
+  pub move : OpenMove t rs hs x.at.mode byte
+  pub none-to : NoneTo t rs s x first ws byte
+
+-- Move e is next.
+pub record TurnAt (t rs : List ℕ) (s : States) (x : Source) (first : ℕ) (ws hs : List ℕ) (e : ℕ) : Type 0 where
+  pub some : e < none
+  pub move : OpenMove t rs hs x.at.mode e
+  pub none-to : NoneTo t rs s x first ws e
+
+pub turn-at :
+    {t rs : List ℕ} {s : States} {x : Source} {first : ℕ} {ws hs : List ℕ} {next : Option ℕ} → Turn t rs s x first ws hs next → {e : ℕ}
+    → next ≡ Some e → TurnAt t rs s x first ws hs e
+turn-at turn q = let o = some-move turn.named q in record { some = o.1; move = rw o.0 at turn.move; none-to = rw o.0 at turn.none-to }
+
+-- The next after it.
+pub turn-next :
+    {t rs : List ℕ} {s : States} {x : Source} {first : ℕ} {ws hs : List ℕ} {e : ℕ} → TurnAt t rs s x first ws hs e → IsRules t rs
+    → {from result : Option ℕ} → from ≡ as_move (after_of rs e) → NextDone rs hs from result → OpenNamed t rs hs x.at.mode (e + 1) result
+turn-next turn rules is done = after-open rules (turn.move.there turn.some) is (turn.move.source turn.some) done

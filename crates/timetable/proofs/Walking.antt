@@ -29,8 +29,7 @@ use Rattle.table.specs.Theorems.Access.{table-proper, amounts-within}
 use Rattle.states.specs.declared.States.{States}
 use Rattle.states.specs.Laws.Bounds.{timers-some, timers-few, ceiling-few, cells-between}
 use Rattle.timetable.specs.declared.walk.Stand.{Stand}
-use Rattle.timetable.specs.declared.walk.Next.{Next}
-use Rattle.timetable.specs.Steps.{goal_graph, Along, NextReady, no_pair, NextDone}
+use Rattle.timetable.specs.Steps.{goal_graph, Along, NoneTight, NextReady, no_pair}
 use Rattle.route.specs.Walk.{RestKept}
 use Rattle.timetable.specs.Walk.{WalkReady, WalkDone}
 use Rattle.timetable.proofs.PairBytes.{label_bytes}
@@ -244,9 +243,9 @@ module _ {t rs : List ℕ} {s : States} {ws₀ bs₀ : List ℕ} (w : WalkReady 
         (along-tight w ws z.node z.depth entry_here.1.0 entry_here.1.2 e
         (omega (arith, light, entry_here.1.1, charge-few w)) x)
 
-    -- The labels before the next were tried.
-    pub tried : (r : Next) → NextDone t rs s z ws r → Walk (goal_graph t) 0 (table ws) k.labels k.at r.label
-    tried r next =
-        walk-tried (ground w) k.walk r.label
-        (λ e m from to x.
-        next.none_before e (subst (λ (v : ℕ). Leaves (goal_graph t) v e) at_here m) from to (tight-here e x))
+    -- The labels before this one were tried.
+    pub tried :
+        {label : ℕ} → NoneTight t ws z.node (z.depth + 1) z.label label → Walk (goal_graph t) 0 (table ws) k.labels k.at label
+    tried {label} none =
+        walk-tried (ground w) k.walk label
+        (λ e m from to x. none e (subst (λ (v : ℕ). Leaves (goal_graph t) v e) at_here m) from to (tight-here e x))

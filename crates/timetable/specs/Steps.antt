@@ -1,6 +1,6 @@
 -- What the functions that look for the next pair of a walk ask and do.
 -- Assumes nothing.
-use Rattle.std.specs.Prelude.{◌≡◌, Bool, true, ◌↔◌, List, ℕ, ◌+◌, ◌*◌, ◌/◌, ◌≤◌, ◌<◌, length}
+use Rattle.std.specs.Prelude.{◌≡◌, Bool, true, ◌↔◌, List, ℕ, ◌+◌, ◌*◌, ◌/◌, ◌≤◌, ◌<◌, Option, MatchOption, length}
 use Rattle.semantics.specs.Automaton.{mode_at}
 use Rattle.semantics.specs.Run.{wait, after}
 use Rattle.semantics.specs.Timetable.{allowed}
@@ -40,12 +40,17 @@ pub record Tight (t ws : List ℕ) (v pairs label w : ℕ) : Type 0 where
   pub leads : edge.to ≡ w
   pub along : Along ws v pairs edge
 
--- Of the labels from `low` on and below `high`, this one is the first that has such an edge, and it leads to w; or none has, and it is `high`.
+-- No edge of v with a label from `low` on and below `high` is tight.
+abbrev pub NoneTight : List ℕ → List ℕ → ℕ → ℕ → ℕ → ℕ → Type 0
+NoneTight t ws v pairs low high =
+    (e : Edge) → Leaves (goal_graph t) v e → low ≤ e.label → e.label < high → Along ws v pairs e → ⊥
+
+-- Of these labels, this one is the first that has such an edge, and it leads to w.
 pub record FirstTight (t ws : List ℕ) (v pairs low high label w : ℕ) : Type 0 where
   pub from : low ≤ label
-  pub upto : label ≤ high
-  pub tight : label < high → Tight t ws v pairs label w
-  pub none_before : (e : Edge) → Leaves (goal_graph t) v e → low ≤ e.label → e.label < label → Along ws v pairs e → ⊥
+  pub below : label < high
+  pub tight : Tight t ws v pairs label w
+  pub none_before : NoneTight t ws v pairs low label
 
 -- What is known of the node v at which the walk stands: no sum with a wait and a price overflows.
 pub record AtNode (t rs : List ℕ) (s : States) (ws : List ℕ) (v : ℕ) : Type 0 where
@@ -70,11 +75,18 @@ pub record MoveReady (t rs : List ℕ) (s : States) (x : Source) (first : ℕ) (
   pub few : first < 64
 
 -- For every node and wait for which it was: the first of the labels of that wait, from the move `first` on.
-pub record MoveDone (t rs : List ℕ) (s : States) (x : Source) (first : ℕ) (ws : List ℕ) (r : Step) : Type 0 where
-  pub few : r.made ≤ 64
+pub record MoveFound (t rs : List ℕ) (s : States) (x : Source) (first : ℕ) (ws : List ℕ) (r : Step) : Type 0 where
+  pub few : r.made < 64
   pub is-first :
       (v d : ℕ) → AtNode t rs s ws v → WaitedAt t x ws v d
       → FirstTight t ws v x.pairs (64 * d + first) (64 * d + 64) (64 * d + r.made) r.node
+
+abbrev pub NoMove : List ℕ → List ℕ → States → Source → ℕ → List ℕ → Type 0
+NoMove t rs s x first ws =
+    (v d : ℕ) → AtNode t rs s ws v → WaitedAt t x ws v d → NoneTight t ws v x.pairs (64 * d + first) (64 * d + 64)
+
+abbrev pub MoveDone : List ℕ → List ℕ → States → Source → ℕ → List ℕ → Option Step → Type 0
+MoveDone t rs s x first ws r = MatchOption r (NoMove t rs s x first ws) (MoveFound t rs s x first ws)
 
 -- The struct is of the state of v, with its charge.
 pub record StandingAt (t : List ℕ) (x : Source) (ws : List ℕ) (v : ℕ) : Type 0 where
@@ -88,11 +100,18 @@ pub record AfterReady (t rs : List ℕ) (s : States) (x : Source) (label : ℕ) 
   pub few : label < 1024
 
 -- For every node for which it was: the first of the labels of the label's wait, from it on.
-pub record AfterDone (t rs : List ℕ) (s : States) (x : Source) (label : ℕ) (ws : List ℕ) (r : Step) : Type 0 where
-  pub few : r.made ≤ 64
+pub record AfterFound (t rs : List ℕ) (s : States) (x : Source) (label : ℕ) (ws : List ℕ) (r : Step) : Type 0 where
+  pub few : r.made < 64
   pub is-first :
       (v : ℕ) → AtNode t rs s ws v → StandingAt t x ws v
       → FirstTight t ws v x.pairs label (64 * (label / 64) + 64) (64 * (label / 64) + r.made) r.node
+
+abbrev pub NoAfter : List ℕ → List ℕ → States → Source → ℕ → List ℕ → Type 0
+NoAfter t rs s x label ws =
+    (v : ℕ) → AtNode t rs s ws v → StandingAt t x ws v → NoneTight t ws v x.pairs label (64 * (label / 64) + 64)
+
+abbrev pub AfterDone : List ℕ → List ℕ → States → Source → ℕ → List ℕ → Option Step → Type 0
+AfterDone t rs s x label ws r = MatchOption r (NoAfter t rs s x label ws) (AfterFound t rs s x label ws)
 
 pub record NextReady (t rs : List ℕ) (s : States) (z : Stand) (ws : List ℕ) : Type 0 where
   pub at-node : AtNode t rs s ws z.node
@@ -104,5 +123,11 @@ abbrev pub no_pair : ℕ
 no_pair = 65535
 
 -- The first of all labels from the one at hand on.
-abbrev pub NextDone : List ℕ → List ℕ → States → Stand → List ℕ → Next → Type 0
-NextDone t rs s z ws r = FirstTight t ws z.node (z.depth + 1) z.label no_pair r.label r.node
+abbrev pub NextFound : List ℕ → Stand → List ℕ → Next → Type 0
+NextFound t z ws r = FirstTight t ws z.node (z.depth + 1) z.label no_pair r.label r.node
+
+abbrev pub NoNext : List ℕ → Stand → List ℕ → Type 0
+NoNext t z ws = NoneTight t ws z.node (z.depth + 1) z.label no_pair
+
+abbrev pub NextDone : List ℕ → Stand → List ℕ → Option Next → Type 0
+NextDone t z ws r = MatchOption r (NoNext t z ws) (NextFound t z ws)

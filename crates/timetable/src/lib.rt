@@ -37,22 +37,26 @@ fn timetable_of(words: &mut [u32], route: &mut [u8], table: &Table) -> Result<Op
     if !closed::is_closed(table) {
         return Err(Refusal::NotClosed);
     }
-    let nodes = search::room(table, words.len())?;
-    let answer = find(words, route, table, nodes);
+    search::room(table, words.len())?;
+    let answer = find(words, route, table);
     search::clear(words, table);
     answer
 }
 
 // Searches for it, and writes its pairs.
-fn find(words: &mut [u32], route: &mut [u8], table: &Table, nodes: usize) -> Result<Option<Cost>, Refusal>
-    requires { FindReady table.now.bytes nodes words.old }
+fn find(words: &mut [u32], route: &mut [u8], table: &Table) -> Result<Option<Cost>, Refusal>
+    requires { FindReady table.now.bytes words.old }
     ensures { ReadOff table.now.bytes words.old route.old words.new route.new (told result) }
 {
     let mut rules = [0u8; RULES];
     rules::make(table, &mut rules);
     let states = states::states_of(table);
     let goal = ToGoal {
-        minutes: MinuteGraph { states, table, rules: &rules },
+        minutes: MinuteGraph {
+            states,
+            table,
+            rules: &rules,
+        },
         goal: table.goal(),
     };
     let Some(cost) = graph::search(words, &goal) else {

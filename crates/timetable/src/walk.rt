@@ -79,7 +79,7 @@ fn tight_after(words: &[u32], minutes: &MinuteGraph, from: Source, label: u32) -
 // The first pair that was not tried whose edge is tight.
 fn next_pair(words: &[u32], minutes: &MinuteGraph, stand: Stand) -> Option<Next>
     requires { NextReady minutes.now.table.now.bytes minutes.now.rules.now minutes.now.states stand words.now }
-    ensures { NextDone minutes.now.table.now.bytes minutes.now.rules.now minutes.now.states stand words.now result }
+    ensures { NextDone minutes.now.table.now.bytes stand words.now result }
 {
     let states = minutes.states;
     let at = states::state_at(states, stand.node);

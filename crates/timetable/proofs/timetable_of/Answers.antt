@@ -1,34 +1,22 @@
 -- `timetable::timetable_of` meets its contract.
 -- Assumes nothing.
 use mathlib.Core.Path.{sym, ◌∙◌}
-use lib.ListN.{length}
-use Rattle.table.specs.Held.{automaton_of}
-use Rattle.search.specs.Laws.Answers.{answer-fits}
-use mathlib.Core.Bool.{not}
-use mathlib.Core.Path.{ap}
+use Rattle.std.proofs.lemmas.Result.{err_from_is_err_and}
+use Rattle.table.specs.Refusals.{number}
 use Rattle.timetable.proofs.Answering.{table-strict, table-refused, table-found}
 use Rattle.timetable.proofs.timetable_of.Goals as goal
 
 pub returns-then-not-is_closed : goal.returns-then-not-is_closed
 returns-then-not-is_closed c =
-    table-strict c.args.table.now.bytes c.args.words.now c.args.route.now c.is_closed.result c.is_closed.ensures (ap not c.if-not-is_closed.true)
+    table-strict c.args.table.now.bytes c.args.words.now c.args.route.now (sym c.is_closed.ensures ∙ c.if-not-is_closed.true)
 
-pub find-answer-requires : goal.find-answer-requires
-find-answer-requires c =
-    record {
-      is-table = c.args.table.now.is_table;
-      fits =
-          answer-fits (automaton_of c.args.table.now.bytes) (length c.args.words.now) c.in-Nodes.nodes
-          (sym c.room-room.ensures ∙ c.in-Nodes.is);
-    }
+pub returns-in_err-room : goal.returns-in_err-room
+returns-in_err-room c =
+    let passed = err_from_is_err_and c.from_residual.result c.from_residual.ensures.1 in
+    rw (passed.1, passed.2) (table-refused c.args.table.now.bytes c.args.words.now c.args.route.now (sym c.is_closed.ensures ∙ c.if-not-is_closed.false)
+    (number c.in_err-room.field-0.0) (sym c.in_err-room.ensures))
 
-pub returns-in-Refused : goal.returns-in-Refused
-returns-in-Refused c =
-    table-refused c.args.table.now.bytes c.args.words.now c.args.route.now c.is_closed.result c.is_closed.ensures (ap not c.if-not-is_closed.false)
-    c.in-Refused.n (sym c.room-room.ensures ∙ c.in-Refused.is)
-
-pub returns-in-Nodes : goal.returns-in-Nodes
-returns-in-Nodes c =
-    table-found c.args.table.now.bytes c.args.words.now c.args.route.now c.is_closed.result c.is_closed.ensures (ap not c.if-not-is_closed.false)
-    c.in-Nodes.nodes c.find-answer.new.words c.clear.new.words c.find-answer.new.route c.find-answer.result
-    (sym c.room-room.ensures ∙ c.in-Nodes.is) c.find-answer.ensures c.clear.ensures
+pub returns : goal.returns
+returns c =
+    table-found c.args.table.now.bytes c.args.words.now c.args.route.now (sym c.is_closed.ensures ∙ c.if-not-is_closed.false) _
+    (sym c.in_ok-room.ensures) c.find-answer.ensures c.clear.ensures

@@ -19,7 +19,8 @@ tight_move-requires c =
 pub returns-then-stays : goal.returns-then-stays
 returns-then-stays c =
     let p = c.requires in
-    after-move c.wait-later.ensures c.stays.ensures p.few c.if-stays.true c.tight_move.ensures
+    after-move c.args.minutes.now.states c.args.words.now c.wait-later.ensures c.stays.ensures p.few c.if-stays.true c.tight_move.result
+    c.tight_move.ensures
 
 pub returns : goal.returns
 returns c =

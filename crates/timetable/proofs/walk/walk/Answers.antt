@@ -12,12 +12,8 @@ use Rattle.timetable.proofs.walk.walk.Goals.{In-loop-states}
 use Rattle.timetable.proofs.walk.walk.Goals as goal
 
 -- Out of the goal.
-far : (c : In-loop-states) → (let args = c.args in
-    c.loop-states.stand.node / args.states.cells ≢ (automaton_of args.table.now.bytes).goal)
+far : (c : In-loop-states) → c.loop-states.stand.node / c.args.minutes.now.states.cells ≢ (automaton_of c.args.minutes.now.table.now.bytes).goal
 far c e = c.loop-states-test.true (c.mode_of.ensures ∙ e ∙ sym c.goal-goal.ensures)
-
-pub goal-goal-requires : goal.goal-goal-requires
-goal-goal-requires c = c.requires.setting.is-table
 
 pub loop-states-init : goal.loop-states-init
 loop-states-init c = λ w. walking-begins w
@@ -27,53 +23,38 @@ mode_of-requires c =
     let w = c.requires in
     (omega (arith, (entry_here w (c.loop-states.invariant w)).0, w.setting.few), (cells-some w).0, (cells-some w).1)
 
-pub next_pair-next-requires : goal.next_pair-next-requires
-next_pair-next-requires c =
-    let w = c.requires in
-    ready w (c.loop-states.invariant w)
+pub next_pair-requires : goal.next_pair-requires
+next_pair-requires c = let w = c.requires in ready w (c.loop-states.invariant w)
 
 pub advance-stand-requires : goal.advance-stand-requires
 advance-stand-requires c =
     let w = c.requires in
-    advance-ready w (c.loop-states.invariant w) c.next_pair-next.result c.next_pair-next.ensures c.if-next-lt-NO_PAIR.true
+    advance-ready w (c.loop-states.invariant w) (rw c.in-Some.is at c.next_pair.ensures)
 
-pub loop-states-smaller-then-next-lt-NO_PAIR : goal.loop-states-smaller-then-next-lt-NO_PAIR
-loop-states-smaller-then-next-lt-NO_PAIR c =
+pub loop-states-smaller-in-Some : goal.loop-states-smaller-in-Some
+loop-states-smaller-in-Some c =
     let w = c.requires in
-    fewer-advance w (c.loop-states.invariant w) c.next_pair-next.result c.next_pair-next.ensures c.if-next-lt-NO_PAIR.true c.advance-stand.new.words
-    c.advance-stand.new.route c.advance-stand.result c.advance-stand.ensures
+    fewer-advance w (c.loop-states.invariant w) (rw c.in-Some.is at c.next_pair.ensures) c.advance-stand.ensures
 
-pub loop-states-preserved-then-next-lt-NO_PAIR : goal.loop-states-preserved-then-next-lt-NO_PAIR
-loop-states-preserved-then-next-lt-NO_PAIR c = λ w.
-    walking-advances w (c.loop-states.invariant w) c.next_pair-next.result c.next_pair-next.ensures c.if-next-lt-NO_PAIR.true c.advance-stand.new.words
-    c.advance-stand.new.route c.advance-stand.result c.advance-stand.ensures
+pub loop-states-preserved-in-Some : goal.loop-states-preserved-in-Some
+loop-states-preserved-in-Some c = λ w.
+    walking-advances w (c.loop-states.invariant w) (rw c.in-Some.is at c.next_pair.ensures) c.advance-stand.ensures
 
 pub backtrack-stand-requires : goal.backtrack-stand-requires
 backtrack-stand-requires c =
     let w = c.requires in
-    backtrack-ready w (c.loop-states.invariant w) c.next_pair-next.result c.next_pair-next.ensures c.if-next-lt-NO_PAIR.false
-    (far (goal.at.backtrack-stand-requires c).In-loop-states)
+    backtrack-ready w (c.loop-states.invariant w) (rw c.in_default.is at c.next_pair.ensures) (far (goal.at.backtrack-stand-requires c).In-loop-states)
 
 pub loop-states-smaller : goal.loop-states-smaller
 loop-states-smaller c =
     let w = c.requires in
-    fewer-backtrack w (c.loop-states.invariant w) c.next_pair-next.result c.next_pair-next.ensures c.if-next-lt-NO_PAIR.false
-    (far (goal.at.loop-states-smaller c).In-loop-states)
-    c.backtrack-stand.new.words c.backtrack-stand.result c.backtrack-stand.ensures
+    fewer-backtrack w (c.loop-states.invariant w) (rw c.in_default.is at c.next_pair.ensures) (far (goal.at.loop-states-smaller c).In-loop-states)
+    c.backtrack-stand.ensures
 
 pub loop-states-preserved : goal.loop-states-preserved
 loop-states-preserved c = λ w.
-    walking-backtracks w (c.loop-states.invariant w) c.next_pair-next.result c.next_pair-next.ensures c.if-next-lt-NO_PAIR.false
-    (far (goal.at.loop-states-preserved c).In-loop-states)
-    c.backtrack-stand.new.words c.backtrack-stand.result c.backtrack-stand.ensures
-
-pub shape_of-words : goal.shape_of-words
-shape_of-words c =
-    (c.loop-states.invariant c.requires).words.kept
-
-pub shape_of-route : goal.shape_of-route
-shape_of-route c =
-    (c.loop-states.invariant c.requires).sized
+    walking-backtracks w (c.loop-states.invariant w) (rw c.in_default.is at c.next_pair.ensures)
+    (far (goal.at.loop-states-preserved c).In-loop-states) c.backtrack-stand.ensures
 
 pub returns : goal.returns
 returns c =

@@ -9,9 +9,9 @@ use Rattle.timetable.proofs.walk.walk.Given as goal
 
 abbrev pub invariant-loop-states : goal.invariant-loop-states
 invariant-loop-states l =
-    (w : WalkReady l.table.bytes l.rules l.states l.initial.words l.initial.route)
+    (w : WalkReady l.minutes.table.now.bytes l.minutes.rules.now l.minutes.states l.initial.words l.initial.route)
     → Walking w l.words l.route l.stand
 
 abbrev pub decreases-loop-states : goal.decreases-loop-states
 decreases-loop-states l =
-    turns l.states.count (length l.initial.route) (take (2 * l.states.count) l.words) l.stand.depth
+    turns l.minutes.states.count (length l.initial.route) (take (2 * l.minutes.states.count) l.words) l.stand.depth

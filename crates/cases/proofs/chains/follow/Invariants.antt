@@ -1,7 +1,7 @@
 -- `cases::chains::follow` meets its contract.
 -- Assumes nothing.
 use Rattle.std.specs.Prelude.{IfSome}
-use Prim.Native.Nat.{◌-◌, ◌≤◌}
+use Prim.Native.Nat.{◌-◌}
 use Rattle.cases.specs.Kept.{OnChain}
 use Rattle.cases.proofs.chains.follow.Given as goal
 

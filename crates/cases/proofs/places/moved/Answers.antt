@@ -6,16 +6,13 @@ use native.Mathlib.Omega.{arith}
 use lib.ListN.{length}
 use Rattle.table.specs.Held.{automaton_of}
 use Rattle.table.specs.Theorems.Access.{target_below}
-use Rattle.cases.proofs.Steps.{move-few, two-operations, operation-ready, second-ready}
+use Rattle.cases.proofs.Steps.{move-few, two-operations, second-ready}
 use Rattle.cases.proofs.places.moved.Goals as goal
 
 pub fits-requires : goal.fits-requires
 fits-requires c =
     let t = c.args.table.now in
     (c.requires.0.valid, omega (arith, move-few t.bytes t.is_table c.args.e c.requires.1))
-
-pub operated-cleared-requires : goal.operated-cleared-requires
-operated-cleared-requires c = operation-ready c.requires.0
 
 pub operated-requires : goal.operated-requires
 operated-requires c = second-ready c.requires.0 c.operated-cleared.ensures

@@ -1,11 +1,8 @@
 -- `cases::places::waited` meets its contract.
 -- Assumes nothing.
 use native.Mathlib.Omega.{arith}
-use Rattle.cases.proofs.Steps.{mode-few, one-operation, operation-ready}
+use Rattle.cases.proofs.Steps.{mode-few, one-operation}
 use Rattle.cases.proofs.places.waited.Goals as goal
-
-pub operated-region-requires : goal.operated-region-requires
-operated-region-requires c = operation-ready c.requires
 
 pub fits-requires : goal.fits-requires
 fits-requires c =

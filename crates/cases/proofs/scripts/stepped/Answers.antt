@@ -1,7 +1,5 @@
 -- `cases::scripts::stepped` meets its contract: a test changes nothing.
 -- Assumes nothing.
-use Rattle.regions.specs.declared.Region.{Region}
-use Rattle.cases.specs.Kept.{Kept}
 use Rattle.cases.proofs.Steps.{kept_same}
 use Rattle.cases.proofs.scripts.stepped.Goals as goal
 use Rattle.cases.proofs.scripts.stepped.Goals.{in-Some, in-None}

@@ -2,4 +2,3 @@
 pub mod Steps
 pub mod OneCell
 pub mod Given
-pub mod Lent

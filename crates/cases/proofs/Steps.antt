@@ -137,10 +137,7 @@ module _ {t : List ℕ} {m : ℕ} {s : Region} where
         subst₂ (λ (n : ℕ) (l : List ℕ). Padded n l) (sym o.timers) (sym e) (table-padded t h),
       )
 
-  -- An operation can be made, and another behind it.
-  pub operation-ready : OnChain t 1 m s → Valid s × PriceRoom most_amount (view s)
-  operation-ready o = (o.valid, less-room (view s) most_amount (2 * most_amount * 1) (omega arith) o.room)
-
+  -- Behind an operation another can be made.
   pub second-ready : {s' : Region} → OnChain t 1 m s → Kept s s' → Valid s' × PriceRoom most_amount (view s')
   second-ready o k =
       (k.valid, k.room most_amount (less-room (view s) (most_amount + most_amount) (2 * most_amount * 1) (omega arith) o.room))

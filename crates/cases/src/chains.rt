@@ -20,13 +20,12 @@ pub fn chain(rt: &impl Print, table: &Table, numbers: &[usize; TOKENS]) {
 // The start and the places after the steps, as far as the steps are allowed.
 fn follow(rt: &impl Print, table: &Table, words: &[u32; WORDS], numbers: &[usize; TOKENS]) {
     let mut next = Some(places::start(rt, table));
-    for i in 1..TOKENS {
+    for (steps, &step) in numbers[1..].iter().enumerate() {
         let Some(place) = next else {
             print::text(rt, b": not allowed\n");
             return;
         };
-        show(rt, table, words, place, i as u32 - 1);
-        let step = numbers[i];
+        show(rt, table, words, place, steps as u32);
         if step == 0 {
             return;
         }

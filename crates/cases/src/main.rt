@@ -31,12 +31,9 @@ fn main(rt: HostRuntime) -> io::Result<()> {
 
 // Runs each line that has its end, with it.
 fn run(rt: &impl Print, script: &[u8]) {
-    let mut from = 0;
-    for at in 0..script.len() {
-        if script[at] == b'\n' {
-            let end = at + 1;
-            run_line(rt, &script[from..end]);
-            from = end;
+    for line in script.split_inclusive(|byte| *byte == b'\n') {
+        if line.ends_with(b"\n") {
+            run_line(rt, line);
         }
     }
 }
@@ -101,8 +98,7 @@ fn of_table(rt: &impl Print, numbers: &[usize; TOKENS], bytes: &[u8]) {
     }
 }
 
-fn of_accepted(rt: &impl Print, numbers: &[usize; TOKENS], table: &Table)
-{
+fn of_accepted(rt: &impl Print, numbers: &[usize; TOKENS], table: &Table) {
     match numbers[0] {
         READ => readings::read(rt, table),
         SEARCH => searches::search(rt, table, numbers),

@@ -1,7 +1,5 @@
 // `plan WORDS ROUTE: TABLE`: the call that plans a table, with so many words and route bytes lent. The words hold 7 before and the route bytes 9;
 // after the call each of them is looked at, also behind the parts that were lent.
-ghost use Rattle.std.specs.Prelude.{◌≡◌, length};
-
 use crate::print;
 use crate::tokens::{LETTER, TOKENS};
 use near::Cost;
@@ -23,10 +21,8 @@ pub fn plan(rt: &impl Print, numbers: &[usize; TOKENS], bytes: &[u8]) {
     told(rt, &words, &route, steps_of(answer));
 }
 
-// The words before a call. Of so many, only the length is told, so that no proof looks into them.
-pub fn sevens() -> [u32; WORDS]
-    ensures { 129600 ≡ length result }
-{
+// The words before a call. They are so many that no proof is to look into them.
+pub fn sevens() -> [u32; WORDS] {
     [7u32; WORDS]
 }
 
@@ -67,8 +63,12 @@ pub fn steps_of(answer: Result<Option<Cost>, Refusal>) -> usize {
     }
 }
 
-// The first place from a place on where the element is not x. There are no more before the place than there are elements.
+// The first place from a place on where the element is not x, or behind the last one.
 pub fn past<T: PartialEq>(elements: &[T], from: usize, x: &T) -> usize {
-    let behind = elements.iter().skip(from);
-    from + behind.take_while(|element| **element == *x).count()
+    for (at, element) in elements.iter().enumerate().skip(from) {
+        if element != x {
+            return at;
+        }
+    }
+    elements.len()
 }

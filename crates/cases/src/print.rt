@@ -20,17 +20,17 @@ pub fn filled(rt: &impl Print, text: &[u8], numbers: [usize; 4]) {
     }
 }
 
-// A byte of such a text. The code of A is 65.
+// A byte of such a text.
 fn put(rt: &impl Print, byte: u8, numbers: [usize; 4]) {
-    let i = (byte as usize + 191) % 256;
-    if i < 4 {
-        let _ = rt.print(numbers[i]);
-    } else if byte == b'H' {
-        let n = numbers[0];
-        let _ = print!(rt; "{n:02x}");
-    } else {
-        let one = [byte];
-        text(rt, &one);
+    match byte {
+        b'A'..=b'D' => {
+            let _ = rt.print(numbers[usize::from(byte - b'A')]);
+        }
+        b'H' => {
+            let n = numbers[0];
+            let _ = print!(rt; "{n:02x}");
+        }
+        _ => text(rt, &[byte]),
     }
 }
 

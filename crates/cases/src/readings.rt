@@ -4,14 +4,8 @@ use crate::print;
 use regions::nodes;
 use table::Table;
 
-pub fn read(rt: &impl Print, table: &Table)
-{
-    let counts = [
-        table.modes(),
-        table.timers(),
-        table.moves(),
-        table.goal(),
-    ];
+pub fn read(rt: &impl Print, table: &Table) {
+    let counts = [table.modes(), table.timers(), table.moves(), table.goal()];
     print::filled(rt, b"modes A timers B moves C goal D", counts);
     // E, or that it is above 65,536.
     match nodes::node_count(table) {

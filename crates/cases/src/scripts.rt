@@ -3,8 +3,8 @@ ghost use Rattle.std.specs.Prelude.{◌≤◌};
 ghost use Rattle.regions.specs.Held.{most_timers, view, Valid, PriceRoom};
 ghost use Rattle.cases.specs.Kept.{most_amount, Kept};
 
-use crate::tokens::{LETTER, TOKENS};
 use crate::operations::Operation;
+use crate::tokens::{LETTER, TOKENS};
 use crate::{operations, print};
 use regions::Region;
 
@@ -13,8 +13,7 @@ pub fn region(rt: &impl Print, numbers: &[usize; TOKENS]) {
     let mut region = Region::start(timers(numbers));
     print::text(rt, b"start");
     parts(rt, region);
-    for i in 2..TOKENS {
-        let step = numbers[i];
+    for &step in &numbers[2..] {
         if step == 0 {
             return;
         }

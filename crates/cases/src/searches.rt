@@ -9,15 +9,13 @@ use table::refusals::Refusal;
 const MOST_WORDS: usize = 6000;
 
 // One word more than there are counts from 0 again.
-pub fn search(rt: &impl Print, table: &Table, numbers: &[usize; TOKENS])
-{
+pub fn search(rt: &impl Print, table: &Table, numbers: &[usize; TOKENS]) {
     let mut words = [7u32; MOST_WORDS];
     let n = numbers[1] % LETTER % 6001;
     shown(rt, table, &mut words[..n]);
 }
 
-fn shown(rt: &impl Print, table: &Table, words: &mut [u32])
-{
+fn shown(rt: &impl Print, table: &Table, words: &mut [u32]) {
     answered(rt, searched(table, words));
     list(rt, words);
     search::clear(words, table);
@@ -26,8 +24,7 @@ fn shown(rt: &impl Print, table: &Table, words: &mut [u32])
 }
 
 // The search for the table's own goal.
-pub fn searched(table: &Table, words: &mut [u32]) -> Result<usize, Refusal>
-{
+pub fn searched(table: &Table, words: &mut [u32]) -> Result<usize, Refusal> {
     let mut rules = [0u8; RULES];
     rules::make(table, &mut rules);
     search::search(words, table, &rules, table.goal())

@@ -21,7 +21,11 @@ fn show(rt: &impl Print, answer: Result<Option<Cost>, Refusal>, route: &[u8; ROU
     match answer {
         Ok(Some(cost)) => {
             let pairs = cost.steps as usize;
-            print::filled(rt, b"charge A\npairs B:", [cost.charge as usize, pairs, 0, 0]);
+            print::filled(
+                rt,
+                b"charge A\npairs B:",
+                [cost.charge as usize, pairs, 0, 0],
+            );
             plans::listed(rt, route, bytes_of(pairs));
         }
         Ok(None) => print::text(rt, b"no route\n"),

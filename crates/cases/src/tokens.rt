@@ -8,8 +8,7 @@ pub const TOKENS: usize = 1024;
 pub const LETTER: usize = 0x100_0000;
 
 // Puts the tokens before the colon, or before the line's end, at their places. Behind the last one there are zeros.
-pub fn read(line: &[u8], tokens: &mut [usize; TOKENS])
-{
+pub fn read(line: &[u8], tokens: &mut [usize; TOKENS]) {
     let mut at = 0;
     for &byte in line {
         if byte == b':' || byte == b'\n' {

@@ -21,12 +21,12 @@ pub fn write(rt: &impl Print, numbers: &[usize; TOKENS], bytes: &[u8]) {
 
 // Sets the byte at a place to a value, for each pair of numbers; one more than there are counts from 0 again.
 fn set(numbers: &[usize; TOKENS], form: &mut [u8; FORM]) {
-    for i in 1..512 {
-        let at = numbers[2 * i];
+    for pair in numbers[2..].chunks_exact(2) {
+        let at = pair[0];
         if at == 0 {
             return;
         }
-        form[at % LETTER % FORM] = (numbers[2 * i + 1] % 256) as u8;
+        form[at % LETTER % FORM] = (pair[1] % 256) as u8;
     }
 }
 

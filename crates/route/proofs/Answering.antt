@@ -1,7 +1,6 @@
 -- What the words of a search say of the goal is the answer: no route, a route for which there are too few bytes, or the route written.
 -- Assumes nothing.
-use mathlib.Core.Path.{◌≡◌, refl, sym, ap, ap₂, subst, subst₂, ◌∙◌}
-use mathlib.Core.Logic.{◌≢◌}
+use mathlib.Core.Path.{◌≡◌, refl, sym, ap, ap₂, subst₂, ◌∙◌}
 use mathlib.Core.List.{List, ◌++◌}
 use Prim.Native.Nat.{ℕ, ◌≤◌, ◌<◌}
 use native.Mathlib.Omega.{arith}
@@ -11,7 +10,7 @@ use Rattle.std.specs.Prelude.{Option, Some, None}
 use Rattle.semantics.specs.Automata.Proper.{Proper}
 use Rattle.semantics.specs.Automaton.{Automaton}
 use Rattle.semantics.specs.Order.{Cost, cost}
-use Rattle.semantics.specs.Graph.Path.{unreached, reached, infinity, table}
+use Rattle.semantics.specs.Graph.Path.{reached, table}
 use Rattle.semantics.specs.NodeCount.{node_count}
 use Rattle.semantics.specs.Graph.Distance.{distance}
 use Rattle.semantics.specs.Answer.{Answer as Best, route, answer}
@@ -25,7 +24,7 @@ use Rattle.search.specs.Outcome.{most_nodes, cleared}
 use Rattle.near.specs.declared.Cost.{Cost as CostHeld}
 use Rattle.space.specs.declared.Space.{Space}
 use Rattle.space.specs.Space.{graph_of, start_of, IsSpace}
-use Rattle.near.specs.Near.{cost_entry, BestRoom, IsBest}
+use Rattle.near.specs.Near.{cost_entry, IsBest}
 use Rattle.route.specs.Answers.{Refused, NoRoute, Route}
 use Rattle.route.specs.Plan.{outcome, routed}
 use Rattle.route.specs.Walk.{RestKept, WalkReady, WalkDone}
@@ -63,11 +62,6 @@ written t best ws rs ws' rs' is room w =
           ∙ sym (ap (λ (x : Best). routed a x vs rs) route-is ∙ routed-full a best.charge ks vs rs (omega (arith, same)));
       words = w.words;
     }
-
--- What is asked to find the goal's cost.
-pub best-room :
-    {t rules : List ℕ} {nodes : ℕ} {ws : List ℕ} → Found t rules nodes ws → (modes : ℕ) → modes ≡ length (automaton_of t).modes → BestRoom nodes modes ws
-best-room {t} {rules} {nodes} {ws} f modes e = subst (λ (m : ℕ). BestRoom nodes m ws) (sym e) f.room
 
 -- What was found is the least cost of the goal's nodes.
 pub best_of :

@@ -1,8 +1,7 @@
 -- The laws that the functions' proofs cite.
--- The walk: sets of corners, the turns that are left, and corners that are left.
+-- The walk: sets of corners, and the turns that are left.
 pub mod MarkedSets
 pub mod Live
-pub mod Leaving
 -- What holds wherever it stands, and that it may go on and ends; a step further, and a step back.
 pub mod Trailing
 pub mod Walking

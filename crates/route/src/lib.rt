@@ -86,6 +86,14 @@ fn read_route(
         return Err(Refusal::RouteTooLong);
     }
     let space = space::space_of(table);
-    walk::walk(words, route, &CornerGraph { space, table, rules });
+    walk::walk(
+        words,
+        route,
+        &CornerGraph {
+            space,
+            table,
+            rules,
+        },
+    );
     Ok(Some(cost))
 }

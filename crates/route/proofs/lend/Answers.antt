@@ -2,7 +2,6 @@
 use mathlib.Core.Path.{◌∙◌}
 use Rattle.std.proofs.lemmas.Result.{err_from_is_err_and}
 use Rattle.table.specs.Refusals.{number}
-use Rattle.route.specs.Lend.{told_needs}
 use Rattle.route.proofs.Lending.{needed-refused, needed-accepted, needs-enough}
 use Rattle.route.proofs.lend.Goals as goal
 

@@ -19,9 +19,6 @@ returns-in_err-nodes c =
     let passed = err_from_is_err_and c.from_residual.result c.from_residual.ensures.1 in
     rw (passed.1, passed.2) (memory-refused (automaton_of c.args.table.now.bytes) (number c.in_err-nodes.field-0.0) (sym c.in_err-nodes.ensures))
 
-pub overflow_mul-result : goal.overflow_mul-result
-overflow_mul-result c = omega (arith, (counts (goal.at.overflow_mul-result c).In_ok-nodes).few)
-
 pub overflow_sub-result : goal.overflow_sub-result
 overflow_sub-result c =
     let k = counts (goal.at.overflow_sub-result c).In_ok-nodes in

@@ -4,7 +4,7 @@ use Rattle.std.specs.Prelude.{Some, None}
 use Rattle.near.specs.Near.{IsBest}
 use lib.ListN.{length}
 use Rattle.table.specs.Held.{automaton_of}
-use Rattle.route.proofs.Answering.{best-room, best_of, read_none, read_short, walk-ready, read-written}
+use Rattle.route.proofs.Answering.{best_of, read_none, read_short, walk-ready, read-written}
 use Rattle.route.proofs.read_route.Goals.{In-Some}
 use Rattle.route.proofs.read_route.Goals as goal
 
@@ -12,9 +12,6 @@ use Rattle.route.proofs.read_route.Goals as goal
 cost_of : (c : In-Some) → IsBest c.args.nodes (automaton_of c.args.table.now.bytes).goal (length (automaton_of c.args.table.now.bytes).modes)
     c.args.words.now (Some c.in-Some.cost)
 cost_of c = best_of c.args.table.now.bytes c.args.nodes c.args.words.now (Some c.in-Some.cost) c.goal.ensures c.modes.ensures c.in-Some.ensures
-
-pub best-requires : goal.best-requires
-best-requires c = best-room c.requires c.modes.result c.modes.ensures
 
 pub returns-in_default : goal.returns-in_default
 returns-in_default c =

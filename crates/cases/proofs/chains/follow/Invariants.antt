@@ -1,11 +1,9 @@
 -- `cases::chains::follow` meets its contract.
 -- Assumes nothing.
-use Prim.Native.Nat.{◌-◌, ◌≤◌}
+use Rattle.std.specs.Prelude.{IfSome}
+use Prim.Native.Nat.{◌-◌}
 use Rattle.cases.specs.Kept.{OnChain}
 use Rattle.cases.proofs.chains.follow.Given as goal
 
-abbrev pub invariant-loop-i : goal.invariant-loop-i
-invariant-loop-i g l = (1 ≤ l.i) × (l.i ≤ 1024) × OnChain l.table.bytes (1025 - l.i) l.place.mode l.place.region
-
-abbrev pub decreases-loop-i : goal.decreases-loop-i
-decreases-loop-i g l = 1024 - l.i
+abbrev pub invariant-loop-steps : goal.invariant-loop-steps
+invariant-loop-steps g l = IfSome l.next (λ place. OnChain l.table.bytes (1024 - l.steps) place.mode place.region)

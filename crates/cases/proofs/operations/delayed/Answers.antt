@@ -6,7 +6,7 @@ use Rattle.regions.specs.Held.{most_timers, view}
 use Rattle.regions.specs.Laws.Chain.{delay-gives}
 use Rattle.regions.specs.Laws.Room.{less-room, delay-price-room, within-whole-room}
 use Rattle.cases.specs.Kept.{most_amount}
-use Rattle.cases.proofs.Steps.{kept, kept_same, ceilings-many, ceilings-below}
+use Rattle.cases.proofs.Steps.{kept, ceilings-many, ceilings-below}
 use Rattle.cases.proofs.operations.delayed.Goals as goal
 
 pub delay-requires : goal.delay-requires
@@ -24,6 +24,3 @@ returns-then-within c =
     let s = c.args.region in
     let rate = c.args.rate in
     kept s c.delay.result rate c.requires.2 (delay-gives s _ c.requires.0 rate c.delay.ensures) (delay-price-room (view s) rate)
-
-pub returns : goal.returns
-returns c = kept_same c.args.region c.requires.0

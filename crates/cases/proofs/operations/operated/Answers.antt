@@ -1,59 +1,30 @@
 -- `cases::operations::operated` meets its contract.
 -- Assumes nothing.
-use Prim.Native.Nat.{ℕ, ◌≤◌}
-use native.Mathlib.Nat.{mod-lt}
 use native.Mathlib.Omega.{arith}
-use lib.Dec.{lit<}
-use Rattle.regions.specs.declared.Region.{Region}
-use Rattle.regions.specs.Held.{Valid, view, PriceRoom}
+use Rattle.regions.specs.Held.{view}
 use Rattle.regions.specs.Laws.Chain.{linger-gives, charge-gives, reset-gives, reset_all-gives}
-use Rattle.regions.specs.Laws.Room.{less-room, linger-price-room, charge-price-room, reset-price-room, reset_all-price-room}
-use Rattle.cases.specs.Kept.{most_amount}
-use Rattle.cases.proofs.Steps.{kept, kept_free, kept_same}
+use Rattle.regions.specs.Laws.Room.{linger-price-room, charge-price-room, reset-price-room, reset_all-price-room}
+use Rattle.cases.proofs.Steps.{kept, kept_free}
 use Rattle.cases.proofs.operations.operated.Goals as goal
 
--- There is room for an amount of 16 bits.
-room :
-    (s : Region) (amount : ℕ) → Valid s × PriceRoom most_amount (view s) → amount ≤ most_amount
-    → Valid s × PriceRoom amount (view s)
-room s amount h few = (h.0, less-room (view s) amount most_amount few h.1)
-
-pub delayed-requires : goal.delayed-requires
-delayed-requires c = (c.requires.0, c.requires.1, omega arith)
-
-pub linger-requires : goal.linger-requires
-linger-requires c = room c.args.region c.args.amount c.requires (omega arith)
-
-pub reset-requires : goal.reset-requires
-reset-requires c = (c.requires.0, mod-lt _ (lit< tt))
-
-pub overflow_cast-amount-in-97 : goal.overflow_cast-amount-in-97
-overflow_cast-amount-in-97 c = record { fits = mod-lt c.args.amount (lit< tt) }
-
-pub charge-requires : goal.charge-requires
-charge-requires c = room c.args.region c.args.amount c.requires (omega arith)
-
-pub returns-in-108 : goal.returns-in-108
-returns-in-108 c =
+pub returns-in-Linger : goal.returns-in-Linger
+returns-in-Linger c =
     let s = c.args.region in
-    let amount = c.args.amount in
+    let amount = c.from-in-Linger.result in
     kept_free s _ (linger-gives s _ c.requires.0 amount c.linger.ensures) (linger-price-room (view s) amount)
 
-pub returns-in-114 : goal.returns-in-114
-returns-in-114 c =
+pub returns-in-Reset : goal.returns-in-Reset
+returns-in-Reset c =
     let s = c.args.region in
     kept_free s _ (reset-gives s _ c.requires.0 _ c.reset.ensures) (reset-price-room (view s) _)
 
-pub returns-in-97 : goal.returns-in-97
-returns-in-97 c =
+pub returns-in-ResetAll : goal.returns-in-ResetAll
+returns-in-ResetAll c =
     let s = c.args.region in
     kept_free s _ (reset_all-gives s _ c.requires.0 _ c.reset_all.ensures) (reset_all-price-room _ (view s))
 
-pub returns-in-99 : goal.returns-in-99
-returns-in-99 c =
+pub returns-in-Charge : goal.returns-in-Charge
+returns-in-Charge c =
     let s = c.args.region in
-    let amount = c.args.amount in
-    kept s _ amount (omega arith) (charge-gives s _ c.requires.0 amount c.charge.ensures) (charge-price-room (view s) amount)
-
-pub returns-in_default : goal.returns-in_default
-returns-in_default c = kept_same c.args.region c.requires.0
+    let amount = c.from-in-Charge.result in
+    kept s _ amount (omega (arith, c.from-in-Charge.ensures)) (charge-gives s _ c.requires.0 amount c.charge.ensures) (charge-price-room (view s) amount)

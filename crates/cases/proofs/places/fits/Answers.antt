@@ -6,7 +6,7 @@ use Rattle.cases.proofs.places.fits.Goals as goal
 
 pub halves-requires : goal.halves-requires
 halves-requires c = (
-  c.requires.1,
-  half_room c.args.table.now.bytes c.requires.0 c.args.region c.requires.1 c.ceilings.result c.ceilings.ensures
+  c.requires.0,
+  half_room c.args.table.now.bytes c.args.table.now.is_table c.args.region c.requires.0 c.ceilings.result c.ceilings.ensures
       (sym c.within.ensures ∙ c.if-within.true),
 )

@@ -9,16 +9,10 @@ use Rattle.regions.specs.Laws.Chain.{start_gives}
 use Rattle.regions.specs.Laws.Room.{start-price-room}
 use Rattle.cases.proofs.places.start.Goals as goal
 
-pub start-requires : goal.start-requires
-start-requires g c =
-    let h = c.requires in
-    let t = c.args.table.now.bytes in
-    omega (arith, counts t h, timer-count t h, c.timers.ensures)
-
 pub returns : goal.returns
 returns g c =
     let n = c.timers in
-    let h = c.requires in
+    let h = c.args.table.now.is_table in
     let t = c.args.table.now.bytes in
     let few = counts t h in
     let g = start_gives n.result c.start.result (omega (arith, few, timer-count t h, n.ensures))

@@ -1,16 +1,13 @@
 -- `cases::places::waited` meets its contract.
 -- Assumes nothing.
 use native.Mathlib.Omega.{arith}
-use Rattle.cases.proofs.Steps.{mode-few, one-operation, operation-ready}
+use Rattle.cases.proofs.Steps.{mode-few, one-operation}
 use Rattle.cases.proofs.places.waited.Goals as goal
-
-pub operated-later-requires : goal.operated-later-requires
-operated-later-requires c = operation-ready c.requires
 
 pub fits-requires : goal.fits-requires
 fits-requires c =
-    let h = c.requires in
-    (h.is-table, c.operated-later.ensures.valid, omega (arith, mode-few c.args.table.now.bytes h.is-table c.args.mode h.there))
+    let t = c.args.table.now in
+    (c.operated-region.ensures.valid, omega (arith, mode-few t.bytes t.is_table c.args.place.mode c.requires.there))
 
 pub returns : goal.returns
-returns c = λ n o. one-operation o c.operated-later.ensures
+returns c = λ n o. one-operation o c.operated-region.ensures

@@ -16,8 +16,8 @@ region_at-at-requires c =
       omega (arith, c.corners-number-end.ensures, corners-few n c.requires.1),
     )
 
-pub returns-then-group-groups : goal.returns-then-group-groups
-returns-then-group-groups c =
+pub returns-then-eq : goal.returns-then-eq
+returns-then-eq c =
     let pre = c.requires in
     (cell-region _ pre.0 pre.1 _ _ c.region_at-at.ensures).valid
 

@@ -10,24 +10,18 @@ use Rattle.regions.specs.Laws.Room.{start-price-room, less-room}
 use Rattle.cases.specs.Kept.{most_amount}
 use Rattle.cases.proofs.scripts.region.Goals as goal
 
-pub loop-i-init : goal.loop-i-init
-loop-i-init g c =
+pub loop-step-init : goal.loop-step-init
+loop-step-init g c =
     let n = c.timers in
     let made = start_gives n.result c.start-region.result n.ensures.0 n.ensures.1 c.start-region.ensures in
-    (omega arith, made.valid, subst (PriceRoom 67042305) (sym made.seen) (start-price-room n.result 67042305 (lit< tt)))
+    (made.valid, subst (PriceRoom 67042305) (sym made.seen) (start-price-room n.result 67042305 (lit< tt)))
 
-pub stepped-region-requires : goal.stepped-region-requires
-stepped-region-requires g c =
-    let loop = c.loop-i in
-    let left = most_amount * (1025 - loop.i) in
-    (loop.invariant.1, less-room (view loop.region) most_amount left (omega arith) loop.invariant.2)
-
-pub loop-i-preserved : goal.loop-i-preserved
-loop-i-preserved g c =
-    let loop = c.loop-i in
-    let left = most_amount * (1025 - (loop.i + 1)) in (
-      omega arith,
+pub loop-step-preserved : goal.loop-step-preserved
+loop-step-preserved g c =
+    let loop = c.loop-step in
+    let test = c.loop-step-test.true in
+    let left = most_amount * (1023 - (loop.step-index + 1)) in (
       c.stepped-region.ensures.valid,
       c.stepped-region.ensures.room left
-          (less-room (view loop.region) (most_amount + left) (most_amount * (1025 - loop.i)) (omega arith) loop.invariant.2),
+          (less-room (view loop.region) (most_amount + left) (most_amount * (1023 - loop.step-index)) (omega (arith, test)) loop.invariant.1),
     )

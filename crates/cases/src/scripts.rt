@@ -41,7 +41,7 @@ fn stepped(rt: &impl Print, region: Region, step: usize) -> Region
         None => region,
     };
     let text = [letter, b'A' + letter / b'x' * 7];
-    print::with(rt, &text, amount as usize);
+    print::with(rt, &text, usize::from(amount));
     if letter < b'w' {
         parts(rt, after);
     } else {

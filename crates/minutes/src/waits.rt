@@ -19,13 +19,13 @@ pub fn wait(graph: &MinuteGraph, from: Source, minutes: u8) -> Source
     ensures { WaitDone graph.now.table.now.bytes from minutes result }
 {
     let at = from.at;
-    let rate = graph.table.rate(at.mode) as u32;
+    let rate = u32::from(graph.table.rate(at.mode));
     Source {
         at: State {
             mode: at.mode,
             values: states::waited(at.values, graph.states.timers, minutes),
         },
-        charge: minutes as u32 * rate + from.charge,
+        charge: u32::from(minutes) * rate + from.charge,
         pairs: from.pairs,
     }
 }

@@ -45,7 +45,7 @@ fn ceilings(bytes: &[u8], timers: u8, table: &mut [u8; SIZE]) -> Result<usize, R
     requires { timers ≤ 3 }
     ensures { Reads (in_order (λ i. within 2 1 15) 0 timers) bytes.now 4 (λ cs. Wrote timers table.old 4 table.new cs) result }
 {
-    let behind = CEILINGS + timers as usize;
+    let behind = CEILINGS + usize::from(timers);
     for at in CEILINGS..behind {
         copied(bytes, at, 1, 15, table)?;
     }
@@ -191,7 +191,7 @@ fn mode_records(
         (λ ms. Wrote (8 * modes) table.old 8 table.new (flat (map mode_bytes ms))) result }
 {
     let mut next = from;
-    for i in 0..modes as usize {
+    for i in 0..usize::from(modes) {
         let at = MODE_RECORDS + (MODE_STRIDE as u32 * i as u32) as usize;
         next = mode_record(bytes, next, timers, table, at)?;
     }
@@ -212,7 +212,7 @@ fn move_records(
         (λ es. Wrote (12 * moves) table.old 136 table.new (flat (map move_bytes es))) result }
 {
     let mut next = from;
-    for i in 0..moves as usize {
+    for i in 0..usize::from(moves) {
         let at = MOVE_RECORDS + (MOVE_STRIDE as u32 * i as u32) as usize;
         next = move_record(bytes, next, modes, timers, table, at)?;
     }

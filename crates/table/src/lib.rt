@@ -61,28 +61,28 @@ impl Table {
     pub fn modes(&self) -> usize
         ensures { result ≡ length (automaton_of self.now.bytes).modes }
     {
-        self.bytes[MODES] as usize
+        usize::from(self.bytes[MODES])
     }
 
     // The number of timers.
     pub fn timers(&self) -> usize
         ensures { result ≡ timers (automaton_of self.now.bytes) }
     {
-        self.bytes[TIMERS] as usize
+        usize::from(self.bytes[TIMERS])
     }
 
     // The number of moves.
     pub fn moves(&self) -> usize
         ensures { result ≡ length (automaton_of self.now.bytes).moves }
     {
-        self.bytes[MOVES] as usize
+        usize::from(self.bytes[MOVES])
     }
 
     // The goal.
     pub fn goal(&self) -> usize
         ensures { result ≡ (automaton_of self.now.bytes).goal }
     {
-        self.bytes[GOAL] as usize
+        usize::from(self.bytes[GOAL])
     }
 
     // All ceilings, 0 behind the last one.
@@ -109,7 +109,7 @@ impl Table {
         requires { e < length (automaton_of self.now.bytes).moves }
         ensures { result ≡ (move_at (automaton_of self.now.bytes) e).source }
     {
-        self.bytes[MOVE_RECORDS + MOVE_STRIDE * e] as usize
+        usize::from(self.bytes[MOVE_RECORDS + MOVE_STRIDE * e])
     }
 
     // The to mode of a move.
@@ -117,7 +117,7 @@ impl Table {
         requires { e < length (automaton_of self.now.bytes).moves }
         ensures { result ≡ (move_at (automaton_of self.now.bytes) e).target }
     {
-        self.bytes[MOVE_RECORDS + MOVE_STRIDE * e + TARGET] as usize
+        usize::from(self.bytes[MOVE_RECORDS + MOVE_STRIDE * e + TARGET])
     }
 
     // What a move is charged.

@@ -31,7 +31,7 @@ fn ceilings(form: &[u8; FORM], timers: u8, pen: &mut Pen) -> Result<(), Refusal>
     requires { (timers ≤ 3) × (pen.old.at + 3 ≤ 919) }
     ensures { Puts (1 * timers) (each ceiling_byte (records_from (λ u. get_or u 0 0) 1 timers (drop 4 form.now))) pen.old result pen.new }
 {
-    for &ceiling in &form[CEILINGS..CEILINGS + timers as usize] {
+    for &ceiling in &form[CEILINGS..CEILINGS + usize::from(timers)] {
         pen.counted(ceiling, 1, 15)?;
     }
     Ok(())
@@ -119,7 +119,7 @@ fn mode_records(form: &[u8; FORM], timers: u8, modes: u8, pen: &mut Pen) -> Resu
     requires { (timers ≤ 3) × (modes ≤ 16) × (pen.old.at + 144 ≤ 919) }
     ensures { Puts (9 * modes) (each (mode_record timers) (map compact_mode (records_from mode_said 14 modes (drop 8 form.now)))) pen.old result pen.new }
 {
-    for i in 0..modes as usize {
+    for i in 0..usize::from(modes) {
         let from = MODE_FORMS + (MODE_FORM as u32 * i as u32) as usize;
         mode_record(form, from, timers, pen)?;
     }
@@ -138,7 +138,7 @@ fn move_records(
     ensures { Puts (12 * moves) (each (move_record modes timers) (map compact_move (records_from move_said 18 moves (drop 232 form.now))))
         pen.old result pen.new }
 {
-    for i in 0..moves as usize {
+    for i in 0..usize::from(moves) {
         let from = MOVE_FORMS + (MOVE_FORM as u32 * i as u32) as usize;
         move_record(form, from, modes, timers, pen)?;
     }

@@ -32,11 +32,11 @@ fn put(byte: u8, from: usize, tokens: &mut [usize; TOKENS]) -> usize
 fn longer(token: usize, byte: u8) -> usize {
     let letters = token / LETTER;
     let base = 10 + letters % 256 / 120 * 6;
-    let d = digit(byte) as usize;
+    let d = usize::from(digit(byte));
     if d < base {
         return letters * LETTER + (token % LETTER * base + d) % LETTER;
     }
-    (letters % 0x1_0000_0000 * 256 + byte as usize) * LETTER
+    (letters % 0x1_0000_0000 * 256 + usize::from(byte)) * LETTER
 }
 
 // Puts the bytes behind the colon at their places, and says how many there are.

@@ -22,7 +22,7 @@ use Rattle.states.specs.declared.States.{States}
 use Rattle.minutes.specs.declared.waits.Source.{Source}
 use Rattle.states.specs.States.{StandsAt}
 use Rattle.minutes.specs.Waits.{WaitReady, WaitDone, OfRules, StaysReady, StaysDone}
-use Rattle.minutes.specs.Edges.{graph_of, rooted_of, state_of, AnyPair, OfMinute, Short, Standing, PairsReady, PairsDone, MinuteReady, Waited, MovesReady, MovesDone}
+use Rattle.minutes.specs.Edges.{Setting, graph_of, rooted_of, state_of, AnyPair, OfMinute, Short, Standing, PairsReady, PairsDone, MinuteReady, Waited, MovesReady, MovesDone}
 use Rattle.states.specs.Laws.Bounds.{timers-some, ceiling-few}
 use Rattle.states.specs.Laws.Shows.{value-below}
 use Rattle.minutes.specs.Laws.Pairs.{minute-edge}
@@ -39,9 +39,9 @@ stand-again h done = record {
   pairs-are = h.pairs-are ∙ ap (λ (c : Cost). suc c.steps) (sym done.same);
 }
 
-module _ {t rs : List ℕ} {s : States} {x : Source} {ws : List ℕ} (p : PairsReady t rs s x ws) where
+module _ {t rs : List ℕ} {s : States} (z : Setting t rs s) {x : Source} {ws : List ℕ} (p : PairsReady t s x ws) where
   mode-there : x.at.mode < length (automaton_of t).modes
-  mode-there = omega (arith, hand-mode p.setting p.goal p.standing.hand, p.standing.stands.mode-is)
+  mode-there = omega (arith, hand-mode z p.goal p.standing.hand, p.standing.stands.mode-is)
 
   -- No value is above its ceiling.
   value-few : (i : ℕ) → get_or x.at.values i 0 ≤ get_or (automaton_of t).ceilings i 0
@@ -53,16 +53,16 @@ module _ {t rs : List ℕ} {s : States} {x : Source} {ws : List ℕ} (p : PairsR
 
   -- That of timer 0, as the struct has it, and the longest wait.
   pub first_below : get_or x.at.values 0 0 ≤ get_or s.ceilings 0 0
-  first_below = rw (p.setting.is-states.ceilings-are, get_or-pad 3 (automaton_of t).ceilings 0) (value-few 0)
+  first_below = rw (z.is-states.ceilings-are, get_or-pad 3 (automaton_of t).ceilings 0) (value-few 0)
 
   pub first-few : get_or s.ceilings 0 0 ≤ 15
-  first-few = rw (p.setting.is-states.ceilings-are, get_or-pad 3 (automaton_of t).ceilings 0) (ceiling-few t p.setting.is-table 0)
+  first-few = rw (z.is-states.ceilings-are, get_or-pad 3 (automaton_of t).ceilings 0) (ceiling-few t z.is-table 0)
 
   -- Where the edges arrive with too many pairs nothing is to be done.
   pub pairs-long : s.count ≤ x.pairs → PairsDone AnyPair t s x ws ws
   pairs-long many goal u h =
       relaxes-already h.hand AnyPair
-      (λ e l f. long-relaxed h.hand e l (edge-inside p.setting goal h.hand e l) (omega (arith, many, h.pairs-are)))
+      (λ e l f. long-relaxed h.hand e l (edge-inside z goal h.hand e l) (omega (arith, many, h.pairs-are)))
 
   -- No wait was looked at yet.
   pub pairs-none : PairsDone (λ e. e.label < 64 * 0) t s x ws ws
@@ -70,10 +70,9 @@ module _ {t rs : List ℕ} {s : States} {x : Source} {ws : List ℕ} (p : PairsR
 
   module _ {ws' : List ℕ} (d : ℕ) (done : PairsDone (λ e. e.label < 64 * d) t s x ws ws') where
     -- Those before d were: the next can be.
-    pub minute-ready : Short s x → d ≤ 15 → MinuteReady t rs s x d ws'
+    pub minute-ready : Short s x → d ≤ 15 → MinuteReady t s x d ws'
     minute-ready short few = record {
       pairs = record {
-        setting = p.setting;
         goal = p.goal;
         node = p.node;
         standing = stand-again p.standing (done p.goal p.node p.standing);
@@ -103,34 +102,32 @@ module _ {t rs : List ℕ} {s : States} {x : Source} {ws : List ℕ} (p : PairsR
         below : (e : Edge) → Leaves (graph_of t goal) u e → e.label < 64 * (d + 1)
         below e l =
             let a = automaton_of t in
-            let ok = table-proper t p.setting.is-table in
+            let ok = table-proper t z.is-table in
             let o = edge_of a ok goal u e l in
             let few = pair-few a ok o.pair (state_of t u) o.allowed in
-            let label : e.label ≡ 64 * o.pair.minutes + o.pair.made = ap (λ (z : Edge). z.label) o.is in
-            let some = timers-some t p.setting.is-table in
+            let label : e.label ≡ 64 * o.pair.minutes + o.pair.made = ap (λ (y : Edge). y.label) o.is in
+            let some = timers-some t z.is-table in
             let under = o.allowed.waits.1 0 some in
             let own = h.stands.shows.there 0 some in
-            let ceiling : get_or s.ceilings 0 0 ≡ get_or a.ceilings 0 0 = rw p.setting.is-states.ceilings-are (get_or-pad 3 a.ceilings 0) in
+            let ceiling : get_or s.ceilings 0 0 ≡ get_or a.ceilings 0 0 = rw z.is-states.ceilings-are (get_or-pad 3 a.ceilings 0) in
             omega (arith, few, label, under, own, ceiling, past)
 
 -- One wait.
-module _ {t rs : List ℕ} {s : States} {x : Source} {d : ℕ} {ws : List ℕ} (m : MinuteReady t rs s x d ws) where
-  abbrev p : PairsReady t rs s x ws
+module _ {t rs : List ℕ} {s : States} (z : Setting t rs s) {x : Source} {d : ℕ} {ws : List ℕ} (m : MinuteReady t s x d ws) where
+  abbrev p : PairsReady t s x ws
   p = m.pairs
 
-  pub wait-ready : WaitReady t s x d
+  pub wait-ready : WaitReady t x d
   wait-ready = record {
-    is-table = p.setting.is-table;
-    is-states = p.setting.is-states;
     standing = (state_of t p.node, p.standing.stands);
-    mode-there = mode-there p;
-    values-few = λ i. omega (arith, value-few p i, ceiling-few t p.setting.is-table i, m.few);
+    mode-there = mode-there z p;
+    values-few = λ i. omega (arith, value-few z p i, ceiling-few t z.is-table i, m.few);
     sum =
-        let rate = rate-within t p.setting.is-table x.at.mode (mode-there p) in
+        let rate = rate-within t z.is-table x.at.mode (mode-there z p) in
         omega (
           arith,
           mul-le-mul m.few rate,
-          hand-sum p.setting p.goal p.standing.hand,
+          hand-sum z p.goal p.standing.hand,
           p.standing.charge-is,
         );
   }
@@ -141,9 +138,9 @@ module _ {t rs : List ℕ} {s : States} {x : Source} {d : ℕ} {ws : List ℕ} (
 
     of-rules : OfRules t rs r.at
     of-rules = record {
-      is-table = p.setting.is-table;
-      is-rules = p.setting.is-rules;
-      mode-there = omega (arith, hand-mode p.setting p.goal p.standing.hand, stands-later.mode-is);
+      is-table = z.is-table;
+      is-rules = z.is-rules;
+      mode-there = omega (arith, hand-mode z p.goal p.standing.hand, stands-later.mode-is);
     }
 
     pub stays-ready : StaysReady rs r.at
@@ -164,9 +161,8 @@ module _ {t rs : List ℕ} {s : States} {x : Source} {d : ℕ} {ws : List ℕ} (
             pairs-are = later.pairs-are ∙ h.pairs-are;
           }
 
-      pub moves-ready : b ≡ true → MovesReady t rs s r ws
+      pub moves-ready : b ≡ true → MovesReady t s r ws
       moves-ready y = record {
-        setting = p.setting;
         short = omega (arith, m.short, later.pairs-are);
         goal = p.goal;
         node = p.node;
@@ -183,6 +179,6 @@ module _ {t rs : List ℕ} {s : States} {x : Source} {d : ℕ} {ws : List ℕ} (
           relaxes-none h.hand (OfMinute d)
           (λ e l of.
           let k = later.stands (state_of t u) h.stands in
-          let w = (minute-edge t p.setting.is-table goal u d e l of).waits in
+          let w = (minute-edge t z.is-table goal u d e l of).waits in
           let y = (told t of-rules (after (automaton_of t) (wait d) (state_of t u)) k).1 ((stays-true (automaton_of t) (state_of t u).mode _).1 w) in
           true≢false (sym y ∙ n))

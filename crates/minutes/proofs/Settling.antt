@@ -63,8 +63,8 @@ module _ {t rs : List ℕ} {s : States} (set : Setting t rs s) (goal : ℕ) {nod
         pairs-are = omega (arith, k.steps-are, lows-steps s.count ws node there);
       }
 
-      pub pairs-ready : PairsReady t rs s (source_of x c) ws
-      pairs-ready = record { setting = set; goal = goal; node = node; standing = standing }
+      pub pairs-ready : PairsReady t s (source_of x c) ws
+      pairs-ready = record { goal = goal; node = node; standing = standing }
 
       -- They were relaxed.
       pub pairs-visited : {ws' : List ℕ} → PairsDone AnyPair t s (source_of x c) ws ws' → Visited (rooted_of t goal) node ws ws' false

@@ -14,6 +14,7 @@ use Rattle.rules.specs.Rules.{InRow}
 use Rattle.states.specs.declared.States.{States}
 use Rattle.states.specs.declared.State.{State as StateHeld}
 use Rattle.minutes.specs.declared.waits.Source.{Source}
+use Rattle.minutes.specs.Settings.{Setting}
 use Rattle.minutes.specs.Waits.{Room, WaitReady, WaitDone, StaysDone}
 use Rattle.states.specs.Laws.Bounds.{timers-few}
 use Rattle.states.specs.Laws.Shows.{shows-waited}
@@ -27,14 +28,14 @@ later-most d (suc n) [] i = omega arith
 later-most d (suc n) (x ∷ l) zero = omega arith
 later-most d (suc n) (x ∷ l) (suc i) = later-most d n l i
 
-module _ {t : List ℕ} {s : States} {x : Source} {d : ℕ} (w : WaitReady t s x d) where
+module _ {t rs : List ℕ} {s : States} (z : Setting t rs s) {x : Source} {d : ℕ} (w : WaitReady t x d) where
   pub wait-done :
       (rate : ℕ) → rate ≡ (mode_at (automaton_of t) x.at.mode).rate → (later : List ℕ) → later ≡ map_to (λ v. v + d) s.timers x.at.values
       → WaitDone t x d (record { at = record { mode = x.at.mode; values = later }; charge = d * rate + x.charge; pairs = x.pairs })
   wait-done rate e later l = record {
     stands = λ k h. record {
       mode-is = h.mode-is;
-      shows = rw (l, w.is-states.timers-are) (shows-waited (automaton_of t) k d h.shows (timers-few t w.is-table));
+      shows = rw (l, z.is-states.timers-are) (shows-waited (automaton_of t) k d h.shows (timers-few t z.is-table));
     };
     room = λ i. rw l (omega (arith, later-most d s.timers x.at.values i, w.values-few i));
     charge-is = ap (λ (u : ℕ). d * u + x.charge) e;

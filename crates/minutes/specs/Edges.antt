@@ -45,8 +45,7 @@ pub record Standing (t : List ℕ) (s : States) (x : Source) (ws : List ℕ) (go
 abbrev pub Short : States → Source → Type 0
 Short s x = x.pairs < s.count
 
-pub record PairsReady (t rs : List ℕ) (s : States) (x : Source) (ws : List ℕ) : Type 0 where
-  pub setting : Setting t rs s
+pub record PairsReady (t : List ℕ) (s : States) (x : Source) (ws : List ℕ) : Type 0 where
   pub goal : ℕ
   pub node : ℕ
   pub standing : Standing t s x ws goal node
@@ -56,8 +55,8 @@ abbrev pub PairsDone : (Edge → Type 0) → List ℕ → States → Source → 
 PairsDone Fits t s x ws ws' = (goal u : ℕ) → Standing t s x ws goal u → Relaxes (rooted_of t goal) s.count u Fits ws ws'
 
 -- No value goes beyond a byte.
-pub record MinuteReady (t rs : List ℕ) (s : States) (x : Source) (d : ℕ) (ws : List ℕ) : Type 0 where
-  pub pairs : PairsReady t rs s x ws
+pub record MinuteReady (t : List ℕ) (s : States) (x : Source) (d : ℕ) (ws : List ℕ) : Type 0 where
+  pub pairs : PairsReady t s x ws
   pub short : Short s x
   pub few : d ≤ 15
 
@@ -69,8 +68,7 @@ pub record Waited (t : List ℕ) (s : States) (x : Source) (ws : List ℕ) (goal
   pub charge-is : x.charge ≡ d * (mode_at (automaton_of t) (state_of t u).mode).rate + charge_at (lows s.count ws) u
   pub pairs-are : x.pairs ≡ suc (steps_at (lows s.count ws) u)
 
-pub record MovesReady (t rs : List ℕ) (s : States) (x : Source) (ws : List ℕ) : Type 0 where
-  pub setting : Setting t rs s
+pub record MovesReady (t : List ℕ) (s : States) (x : Source) (ws : List ℕ) : Type 0 where
   pub short : Short s x
   pub goal : ℕ
   pub node : ℕ
@@ -85,16 +83,16 @@ MovesDone t s x ws ws' =
 
 -- The same by the struct that has the table, its rules and its states.
 abbrev pub PairsReadyIn : MinuteGraph → Source → List ℕ → Type 0
-PairsReadyIn g = PairsReady g.table.now.bytes g.rules.now g.states
+PairsReadyIn g = PairsReady g.table.now.bytes g.states
 
 abbrev pub PairsDoneIn : (Edge → Type 0) → MinuteGraph → Source → List ℕ → List ℕ → Type 0
 PairsDoneIn Fits g = PairsDone Fits g.table.now.bytes g.states
 
 abbrev pub MinuteReadyIn : MinuteGraph → Source → ℕ → List ℕ → Type 0
-MinuteReadyIn g = MinuteReady g.table.now.bytes g.rules.now g.states
+MinuteReadyIn g = MinuteReady g.table.now.bytes g.states
 
 abbrev pub MovesReadyIn : MinuteGraph → Source → List ℕ → Type 0
-MovesReadyIn g = MovesReady g.table.now.bytes g.rules.now g.states
+MovesReadyIn g = MovesReady g.table.now.bytes g.states
 
 abbrev pub MovesDoneIn : MinuteGraph → Source → List ℕ → List ℕ → Type 0
 MovesDoneIn g = MovesDone g.table.now.bytes g.states

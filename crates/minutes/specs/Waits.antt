@@ -7,19 +7,16 @@ use Rattle.semantics.specs.Timetable.{stays}
 use Rattle.semantics.specs.Graph.Path.{infinity}
 use Rattle.table.specs.Held.{automaton_of, IsTable}
 use Rattle.rules.specs.Rules.{IsRules}
-use Rattle.states.specs.declared.States.{States}
 use Rattle.states.specs.declared.State.{State as StateHeld}
 use Rattle.minutes.specs.declared.waits.Source.{Source}
-use Rattle.states.specs.States.{IsStates, StandsAt}
+use Rattle.states.specs.States.{StandsAt}
 
 -- Values have room in half minutes.
 abbrev pub Room : List ℕ → Type 0
 Room values = (i : ℕ) → get_or values i 0 < 127
 
 -- The struct is of a state, and neither a value nor the charge goes too far.
-pub record WaitReady (t : List ℕ) (s : States) (x : Source) (d : ℕ) : Type 0 where
-  pub is-table : IsTable t
-  pub is-states : IsStates t s
+pub record WaitReady (t : List ℕ) (x : Source) (d : ℕ) : Type 0 where
   pub standing : (z : State) × StandsAt (automaton_of t) z x.at
   pub mode-there : x.at.mode < length (automaton_of t).modes
   pub values-few : (i : ℕ) → get_or x.at.values i 0 + d < 127

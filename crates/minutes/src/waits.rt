@@ -15,7 +15,7 @@ pub struct Source {
 
 // A state some minutes later, and what has been charged then.
 pub fn wait(graph: &MinuteGraph, from: Source, minutes: u8) -> Source
-    requires { WaitReady graph.now.table.now.bytes graph.now.states from minutes }
+    requires { WaitReady graph.now.table.now.bytes from minutes }
     ensures { WaitDone graph.now.table.now.bytes from minutes result }
 {
     let at = from.at;

@@ -8,10 +8,10 @@ use Rattle.std.specs.Prelude.{Option, Some, None, Result, Ok, Err}
 use Rattle.table.specs.declared.refusals.Refusal.{Refusal}
 use Rattle.table.specs.Refusals.{number}
 use Rattle.near.specs.declared.Cost.{Cost}
-use Rattle.route.specs.Answers.{Answer, told}
+use Rattle.route.specs.Answers.{told}
 use Rattle.route.specs.Plan.{outcome, planned}
 use Rattle.route.specs.Promise.{KeepsDemand}
-use Rattle.timetable.specs.Answers.{Answer as Timetabled, told as timetable_told}
+use Rattle.timetable.specs.Answers.{told_timetable}
 use Rattle.timetable.specs.Timetabled.{outcome as Timetabled·outcome, timetabled}
 use Rattle.timetable.specs.Promise.{KeepsTimetable}
 use Rattle.planner.specs.Numbers.{decoded, decoded_timetable, number_of, charge_after, count_after, Untouched}
@@ -30,8 +30,8 @@ route-told bytes ws rs ws' rs' (Err refusal) e k C n = told-refused bytes ws rs 
 
 -- A timetable.
 pub timetable-told :
-    (bytes ws rs ws' rs' : List ℕ) (r : Result (Option Cost) Refusal) → Timetabled·outcome (timetable_told r) ws' rs' ≡ timetabled bytes ws rs
-    → KeepsTimetable bytes ws rs' (timetable_told r) → (C n : ℕ)
+    (bytes ws rs ws' rs' : List ℕ) (r : Result (Option Cost) Refusal) → Timetabled·outcome (told_timetable r) ws' rs' ≡ timetabled bytes ws rs
+    → KeepsTimetable bytes ws rs' (told_timetable r) → (C n : ℕ)
     → let s = decoded_timetable (number_of r) (charge_after r C) (count_after r n) in
     (Timetabled·outcome s ws' rs' ≡ timetabled bytes ws rs)
     × (Untouched (number_of r) C (charge_after r C) × (Untouched (number_of r) n (count_after r n) × KeepsTimetable bytes ws rs' s))

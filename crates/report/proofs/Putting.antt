@@ -1,11 +1,11 @@
 -- Texts put one behind another.
 -- Assumes nothing.
-use mathlib.Core.Path.{◌≡◌, sym, ap, ap₂, ◌∙◌}
+use mathlib.Core.Path.{◌≡◌, refl, sym, ap, ap₂, ◌∙◌}
 use mathlib.Core.List.{List, [], ◌++◌, append_assoc, append-nil}
 use Prim.Native.Nat.{ℕ, ◌+◌, ◌≤◌}
 use native.Mathlib.Omega.{arith}
 use lib.ListN.{length, take, drop, length-append, take-append-drop}
-use lib.Seq.{paste, length-take-le, take-length, take_at, drop-append-add, drop-drop}
+use lib.Seq.{length-take-le, take_at, drop-append-add, drop-drop}
 use Rattle.report.specs.Put.{Put}
 
 -- No text.
@@ -14,12 +14,9 @@ put-none place d =
     let e : place + 0 ≡ place = omega arith in
     record { behind = omega arith; bytes = sym (rw (e, append-nil) (take-append-drop place d)) }
 
--- What was copied is a text put.
-pub put-copied : (place : ℕ) (d s : List ℕ) (next : ℕ) (e : List ℕ) → next ≡ place + length s → e ≡ paste d place s (length s) → Put s place d next e
-put-copied place d s next e n b = record {
-  behind = n;
-  bytes = b ∙ ap (λ (l : List ℕ). take place d ++ l ++ drop (place + length s) d) (take-length s);
-}
+-- What was copied in place of as many bytes is a text put.
+pub put-slice : (place : ℕ) (d s : List ℕ) {t : List ℕ} → t ≡ s → Put s place d (place + length s) (take place d ++ (t ++ drop (length s) (drop place d)))
+put-slice place d s e = record { behind = refl; bytes = rw (e, drop-drop (length s) place d) (sym (append_assoc (take place d) s (drop (place + length s) d))) }
 
 module _ {w : List ℕ} {place : ℕ} {d : List ℕ} {next : ℕ} {e : List ℕ} (p : Put w place d next e) (room : place + length w ≤ length d) where
   front : length (take place d) ≡ place

@@ -2,10 +2,11 @@
 -- Assumes nothing.
 use mathlib.Core.Path.{◌≡◌, refl, sym, ap, ◌∙◌}
 use mathlib.Core.List.{List, [], ◌∷◌, ◌++◌, append_assoc, append-nil}
-use Prim.Native.Nat.{ℕ, suc, ◌+◌, ◌-◌, ◌≤◌, ◌<◌}
+use Prim.Native.Nat.{ℕ, suc, ◌+◌, ◌-◌, ◌≤◌, ◌<◌, min}
+use native.Mathlib.Decide.{dec_lt}
 use native.Mathlib.Omega.{arith}
 use lib.ListN.{length, get_or, take, drop, length-append}
-use lib.Seq.{take-suc, take-add}
+use lib.Seq.{take-suc, take-add, take_all}
 use Rattle.report.specs.Lines.{decimal, step_texts}
 
 steps-append : (ks ls : List ℕ) → step_texts (ks ++ ls) ≡ step_texts ks ++ step_texts ls
@@ -32,3 +33,11 @@ steps-room i n rs h l =
       ap length (steps-more i rs l),
       length-append (step_texts (take i rs)) (32 ∷ decimal (get_or rs i 0)),
     )
+
+-- As many as there are, of n.
+pub same-steps : (n i : ℕ) (rs : List ℕ) → i ≡ min n (length rs) → take i rs ≡ take n rs
+same-steps n i rs e = at (dec_lt n (length rs))
+  where
+    at : Dec (n < length rs) → take i rs ≡ take n rs
+    at (yes h) = let same : i ≡ n = omega (arith, e) in rw same refl
+    at (no h) = take_all i rs (omega (arith, e)) ∙ sym (take_all n rs (omega arith))

@@ -1,14 +1,12 @@
 -- The lines of an answer are short: a caller knows how many bytes to lend.
 -- Assumes nothing.
-use Rattle.std.specs.Prelude.{◌≡◌, Bool, true, false, cond, List, [], ◌∷◌, ◌++◌, ℕ, suc, ◌*◌, ◌^◌, ◌≤◌, ◌<◌, min, leb, length, get_or, take, drop}
+use Rattle.std.specs.Prelude.{◌≡◌, Option, Some, None, Bool, true, false, cond, List, [], ◌∷◌, ◌++◌, ℕ, suc, ◌*◌, ◌^◌, ◌≤◌, ◌<◌, min, leb, length, get_or, take, drop}
 use Rattle.std.proofs.Common.{sym, ap, ◌∙◌, arith, length-append, length-take, get_or-take}
 use Prim.{Unit}
 use Rattle.semantics.specs.Distinct.{distinct}
 use Rattle.route.specs.Answers.{Answer}
 use Rattle.route.specs.Answers.{Refused, NoRoute, Route}
 use Rattle.report.specs.Lines.{decimal, charge_text, route_text, refused_text, step_texts, lines}
-use Rattle.report.specs.declared.Written.{Written}
-use Rattle.report.specs.declared.Written.TheVariants.{Bytes, TooShort}
 use Rattle.report.specs.Destination.{overwritten, room, filled, lines_into}
 use Rattle.report.specs.Counting.{decimal-below}
 
@@ -57,16 +55,16 @@ lines-short (Route C n) rs r h =
     )
 
 -- What is written is within the destination.
-pub written-within : (answer : Answer) (rs d : List ℕ) {w : Written} {n : ℕ} {e : List ℕ} → filled w e ≡ lines_into answer rs d → w ≡ Bytes n →
+pub written-within : (answer : Answer) (rs d : List ℕ) {w : Option ℕ} {n : ℕ} {e : List ℕ} → filled w e ≡ lines_into answer rs d → w ≡ Some n →
     n ≤ length e
 unfolding lines_into
-written-within answer rs d {w} {n} {e} q t = go (leb (room (length rs)) (length d)) (ap (λ (v : Written). filled v e) (sym t) ∙ q)
+written-within answer rs d {w} {n} {e} q t = go (leb (room (length rs)) (length d)) (ap (λ (v : Option ℕ). filled v e) (sym t) ∙ q)
   where
-    go : (b : Bool) → filled (Bytes n) e ≡ cond b (filled (Bytes (length (lines answer rs))) (overwritten (lines answer rs) d)) (filled TooShort d) → n ≤ length e
+    go : (b : Bool) → filled (Some n) e ≡ cond b (filled (Some (length (lines answer rs))) (overwritten (lines answer rs) d)) (filled None d) → n ≤ length e
     go true q =
-        let same : Bytes n ≡ Bytes (length (lines answer rs)) = ap (λ f. f.written) q in
+        let same : Some n ≡ Some (length (lines answer rs)) = ap (λ f. f.written) q in
         let count : n ≡ length (lines answer rs) = cc in
         omega (arith, ap (λ f. length f.bytes) q, length-append (lines answer rs) (drop (length (lines answer rs)) d))
     go false q =
-        let clash : Bytes n ≡ TooShort = ap (λ f. f.written) q in
+        let clash : Some n ≡ None = ap (λ f. f.written) q in
         distinct cc

@@ -12,7 +12,7 @@ use Rattle.semantics.specs.Region.{top, delay, meets_all, within}
 use Rattle.semantics.specs.Nodes.Node.{node_of, node_number}
 use Rattle.semantics.specs.Answers.Waiting.{delayed_to}
 use Rattle.table.specs.Held.{automaton_of}
-use Rattle.rules.specs.Rules.{InRow, IsRules}
+use Rattle.rules.specs.Rules.{InRow}
 use Rattle.regions.specs.declared.Region.{Region}
 use Rattle.regions.specs.declared.nodes.NodeRegion.{NodeRegion}
 use Rattle.regions.specs.Held.{pack, view, Valid, HalfRoom}
@@ -23,15 +23,11 @@ use Rattle.space.specs.Space.{Setting, IsCorner, place_at}
 use Rattle.steps.specs.Leading.{IsLed, DelayEdges, LedDelayReady, StepReady, Silent, TriedOne, IsFound}
 use Rattle.space.proofs.Settings.{halves_of}
 use Rattle.steps.proofs.Sets.{refused}
-use Rattle.steps.proofs.Standing.{stand-setting}
 use Rattle.space.proofs.Delayed.{delayed-valid, delayed-seen, delayed-is-place, halves-ready, delayed-allowed, delayed-number}
 use Rattle.steps.proofs.LeadingWaits.{delay-unmet, led-delay-ready, delay-tried}
 
-module _ {t : List ℕ} {s : Space} {x : NodeRegion} {z : Stand} {ws : List ℕ} (w : StepReady t s x z ws) {rs : List ℕ} (rules : IsRules t rs)
+module _ {t : List ℕ} {s : Space} {x : NodeRegion} {z : Stand} {ws : List ℕ} (w : StepReady t s x z ws) {rs : List ℕ} (setting : Setting t rs s)
     (delayed : Region) (made : delayed ≡ pack (delay 0 (view x.region))) where
-  setting : Setting t rs s
-  setting = stand-setting w rules
-
   corner : IsCorner t x
   corner = w.here.corner
 

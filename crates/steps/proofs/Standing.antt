@@ -23,14 +23,13 @@ use Rattle.semantics.specs.Answers.Marks.{Grows, Led}
 use Rattle.semantics.proofs.Answers.Led.{grows-iff}
 use Rattle.table.specs.Fields.{most_price}
 use Rattle.table.specs.Held.{automaton_of}
-use Rattle.rules.specs.Rules.{IsRules}
 use Rattle.regions.specs.declared.nodes.NodeRegion.{NodeRegion}
 use Rattle.regions.specs.Held.{view}
 use Rattle.regions.specs.Nodes.{pack_node_region}
 use Rattle.space.specs.declared.Space.{Space}
 use Rattle.steps.specs.declared.Stand.{Stand}
 use Rattle.steps.specs.declared.Next.{Next}
-use Rattle.space.specs.Space.{Setting, place_at}
+use Rattle.space.specs.Space.{place_at}
 use Rattle.steps.specs.Steps.{Marked, stand_place, Tells, StandReady, Leads}
 use Rattle.steps.specs.Leading.{TightAt, CornersReady, StepReady, Silent, LeadsOn, TriedOne, IsFound}
 use Rattle.space.specs.Laws.NodeRegion.{corner-at}
@@ -54,15 +53,6 @@ module _ {t : List ℕ} {s : Space} {x : NodeRegion} {z : Stand} {ws : List ℕ}
 
   pub stand-proper : Proper (automaton_of t)
   stand-proper = setting-proper w.ready.setting
-
-  -- The table with its rules.
-  pub stand-setting : {rs : List ℕ} → IsRules t rs → Setting t rs s
-  stand-setting rules = record {
-    is-table = w.ready.setting.is-table;
-    is-rules = rules;
-    is-space = w.ready.setting.is-space;
-    few = w.ready.setting.few;
-  }
 
   stand-first : x.first ≡ z.first
   stand-first = w.here.corner.first-is ∙ ap (λ (q : Place). number_of a q 0) w.here.place_is ∙ w.ready.first-is

@@ -144,10 +144,3 @@ FromReady rs mode byte = (t : List ℕ) × FromMode t rs mode byte
 
 abbrev pub FromDone : List ℕ → List ℕ → ℕ → ℕ → Option ℕ → Type 0
 FromDone rs hs mode byte result = (t : List ℕ) → FromMode t rs mode byte → OpenNamed t rs hs mode byte result
-
--- What is said of linger holds for every space of which the walk stands so.
-abbrev pub LingerReady : List ℕ → NodeRegion → Stand → List ℕ → Type 0
-LingerReady t x z ws = (s : Space) × StepReady t s x z ws
-
-abbrev pub LingerTried : List ℕ → NodeRegion → Stand → List ℕ → Option Next → Type 0
-LingerTried t x z ws r = (s : Space) → StepReady t s x z ws → Tried t s z ws (OnlyByte 65 z) r

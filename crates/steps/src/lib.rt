@@ -2,11 +2,10 @@
 #![tactic(auto)]
 
 ghost use Rattle.std.specs.Prelude.{◌≡◌, true, cond, ◌↔◌, ◌<◌, ltb};
-ghost use Rattle.rules.specs.Rules.{IsRules};
 ghost use Rattle.regions.specs.Held.{view};
 ghost use Rattle.steps.specs.Steps.{Marked, StandReady, NextStep};
 ghost use Rattle.steps.specs.Images.{corner_of, RegionReady, Goes, IsImage};
-ghost use Rattle.steps.specs.Leading.{Adds, TightReady, TightAt, LedTo, CornersReady, LeadReady, IsLed, MoveEdges, LedMoveReady, DelayEdges, LedDelayReady, TriedOne, Tried, MoveByte, OnlyByte, IsFound, StepReady, AlongReady, FromReady, FromDone, LingerReady, LingerTried};
+ghost use Rattle.steps.specs.Leading.{Adds, TightReady, TightAt, LedTo, CornersReady, LeadReady, IsLed, MoveEdges, LedMoveReady, DelayEdges, LedDelayReady, TriedOne, Tried, MoveByte, OnlyByte, IsFound, StepReady, AlongReady, FromReady, FromDone};
 ghost use Rattle.table.specs.Meaning.{named_timers};
 ghost use Rattle.space.specs.Images.{ImageReady, Images, ImageDone};
 
@@ -15,7 +14,6 @@ use regions::{Region, nodes};
 use rules::RULES;
 use space::graph::CornerGraph;
 use space::{Space, moves};
-use table::Table;
 
 // Where a walk stands: the node of the place's corner 0, a bit for each of its corners that is marked, how many steps led to it, and the byte from
 // which on steps are still to be tried.
@@ -209,7 +207,7 @@ fn along_move(
 
 // Tries the moves.
 fn by_move(words: &[u32], corners: &CornerGraph, at: NodeRegion, stand: Stand) -> Option<Next>
-    requires { StepReady corners.now.table.now.bytes corners.now.space at stand words.now × IsRules corners.now.table.now.bytes corners.now.rules.now }
+    requires { StepReady corners.now.table.now.bytes corners.now.space at stand words.now }
     ensures { Tried corners.now.table.now.bytes corners.now.space stand words.now (MoveByte stand) result }
 {
     if DELAY <= stand.byte {
@@ -231,7 +229,7 @@ fn by_move(words: &[u32], corners: &CornerGraph, at: NodeRegion, stand: Stand) -
 
 // Tries the delay. The mode's row has its conditions and the ceilings.
 fn by_delay(words: &[u32], corners: &CornerGraph, at: NodeRegion, stand: Stand) -> Option<Next>
-    requires { StepReady corners.now.table.now.bytes corners.now.space at stand words.now × IsRules corners.now.table.now.bytes corners.now.rules.now }
+    requires { StepReady corners.now.table.now.bytes corners.now.space at stand words.now }
     ensures { Tried corners.now.table.now.bytes corners.now.space stand words.now (OnlyByte 64 stand) result }
 {
     if DELAY < stand.byte {
@@ -251,9 +249,9 @@ fn by_delay(words: &[u32], corners: &CornerGraph, at: NodeRegion, stand: Stand) 
 }
 
 // Tries to linger. Only where r0 is empty, so that a delay takes a corner away, does it lead on, from corner 0 to the last.
-fn by_linger(words: &[u32], table: &Table, at: NodeRegion, stand: Stand) -> Option<Next>
-    requires { LingerReady table.now.bytes at stand words.now }
-    ensures { LingerTried table.now.bytes at stand words.now result }
+fn by_linger(words: &[u32], corners: &CornerGraph, at: NodeRegion, stand: Stand) -> Option<Next>
+    requires { StepReady corners.now.table.now.bytes corners.now.space at stand words.now }
+    ensures { Tried corners.now.table.now.bytes corners.now.space stand words.now (OnlyByte 65 stand) result }
 {
     if LINGER < stand.byte {
         return None;
@@ -263,7 +261,7 @@ fn by_linger(words: &[u32], table: &Table, at: NodeRegion, stand: Stand) -> Opti
     if last <= delayed.top() {
         return None;
     }
-    let rate = table.rate(at.mode) as u32;
+    let rate = corners.table.rate(at.mode) as u32;
     found(
         LINGER,
         at.first,
@@ -287,5 +285,5 @@ pub fn next_step(words: &[u32], corners: &CornerGraph, stand: Stand) -> Option<N
     if delayed.is_some() {
         return delayed;
     }
-    by_linger(words, corners.table, at, stand)
+    by_linger(words, corners, at, stand)
 }

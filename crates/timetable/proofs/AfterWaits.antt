@@ -20,7 +20,7 @@ use Rattle.table.specs.Theorems.Access.{table-proper}
 use Rattle.states.specs.declared.States.{States}
 use Rattle.minutes.specs.declared.waits.Source.{Source}
 use Rattle.minutes.specs.Waits.{WaitReady, WaitDone, OfRules, StaysReady, StaysDone}
-use Rattle.minutes.specs.Edges.{state_of}
+use Rattle.minutes.specs.Edges.{Setting, state_of}
 use Rattle.states.specs.Laws.Bounds.{ceiling-few}
 use Rattle.states.specs.Laws.Shows.{value-below}
 use Rattle.timetable.specs.declared.walk.Step.{Step}
@@ -43,33 +43,31 @@ edge-waits t table v y l =
     let same = ap (λ (z : Edge). z.label / 64) o.is ∙ ap (λ (p : Pair). p.minutes) (pair-label o.pair few) in
     rw same o.allowed.waits
 
-module _ {t rs : List ℕ} {s : States} {ws : List ℕ} {x : Source} {v : ℕ} (n : AtNode t rs s ws v) (k : StandingAt t x ws v) where
+module _ {t rs : List ℕ} {s : States} (set : Setting t rs s) {ws : List ℕ} {x : Source} {v : ℕ} (n : AtNode s ws v) (k : StandingAt t x ws v) where
   -- No timer is above 15.
   value-few : (i : ℕ) → get_or x.at.values i 0 ≤ 15
   value-few i = at (dec_lt i (timers (automaton_of t)))
     where
       at : Dec (i < timers (automaton_of t)) → get_or x.at.values i 0 ≤ 15
       at (yes h) =
-          omega (arith, k.stands.shows.there i h, value-below (automaton_of t) v i h, ceiling-few t n.setting.is-table i)
+          omega (arith, k.stands.shows.there i h, value-below (automaton_of t) v i h, ceiling-few t set.is-table i)
       at (no h) = omega (arith, k.stands.shows.spare i (omega arith))
 
-  pub wait-ready : (d : ℕ) → d ≤ 15 → WaitReady t s x d
+  pub wait-ready : (d : ℕ) → d ≤ 15 → WaitReady t x d
   wait-ready d few = record {
-    is-table = n.setting.is-table;
-    is-states = n.setting.is-states;
     standing = (state_of t v, k.stands);
-    mode-there = omega (arith, k.stands.mode-is, node-mode n);
+    mode-there = omega (arith, k.stands.mode-is, node-mode set n);
     values-few = λ i. omega (arith, value-few i);
-    sum = rw (k.stands.mode-is, k.charge-is) (omega (arith, wait-most n d few, n.sum));
+    sum = rw (k.stands.mode-is, k.charge-is) (omega (arith, wait-most set n d few, n.sum));
   }
 
   -- The minutes were waited.
   module _ {d : ℕ} {later : Source} (done : WaitDone t x d later) where
     later-rules : OfRules t rs later.at
     later-rules = record {
-      is-table = n.setting.is-table;
-      is-rules = n.setting.is-rules;
-      mode-there = omega (arith, (done.stands (state_of t v) k.stands).mode-is, node-mode n);
+      is-table = set.is-table;
+      is-rules = set.is-rules;
+      mode-there = omega (arith, (done.stands (state_of t v) k.stands).mode-is, node-mode set n);
     }
 
     pub later-ready : StaysReady rs later.at
@@ -94,33 +92,33 @@ module _ {t rs : List ℕ} {s : States} {ws : List ℕ} {x : Source} {v : ℕ} (
 
       -- If the mode may not be stayed in, no edge has such a wait.
       pub no_edge : b ≡ false → (y : Edge) → Leaves (goal_graph t) v y → y.label / 64 ≡ d → ⊥
-      no_edge is y l same = no-wait is (rw same at (edge-waits t n.setting.is-table v y l))
+      no_edge is y l same = no-wait is (rw same at (edge-waits t set.is-table v y l))
 
-module _ {t rs : List ℕ} {s : States} {ws : List ℕ} {x : Source} {label : ℕ} where
-  pub after-wait-ready : AfterReady t rs s x label ws → WaitReady t s x (label / 64)
-  after-wait-ready h = wait-ready h.at-node h.standing (label / 64) (minutes-few h.few)
+module _ {t rs : List ℕ} {s : States} (set : Setting t rs s) {ws : List ℕ} {x : Source} {label : ℕ} where
+  pub after-wait-ready : AfterReady t s x label ws → WaitReady t x (label / 64)
+  after-wait-ready h = wait-ready set h.at-node h.standing (label / 64) (minutes-few h.few)
 
   module _ {later : Source} (done : WaitDone t x (label / 64) later) {b : Bool} (tested : StaysDone rs later.at b) (few : label < 1024) where
-    pub after-move-ready : b ≡ true → AfterReady t rs s x label ws → MoveReady t rs s later (label % 64) ws
+    pub after-move-ready : b ≡ true → AfterReady t s x label ws → MoveReady t s later (label % 64) ws
     after-move-ready is h = record {
       node = h.node;
       minutes = label / 64;
       at-node = h.at-node;
-      waited = waited-at h.at-node h.standing done tested (minutes-few few) is;
+      waited = waited-at set h.at-node h.standing done tested (minutes-few few) is;
       few = (label-parts label).1;
     }
 
-    pub after_none : b ≡ false → NoAfter t rs s x label ws
-    after_none is v n k y l low high a = no_edge n k done tested is y l (omega (arith, label-parts label, label-parts y.label))
+    pub after_none : b ≡ false → NoAfter t s x label ws
+    after_none is v n k y l low high a = no_edge set n k done tested is y l (omega (arith, label-parts label, label-parts y.label))
 
 -- The first move after the wait, or none.
 pub after-move :
-    {t rs : List ℕ} (s : States) (ws : List ℕ) {x later : Source} {label : ℕ} → WaitDone t x (label / 64) later → {b : Bool} → StaysDone rs later.at b
-    → label < 1024 → b ≡ true → (r : Option Step) → MoveDone t rs s later (label % 64) ws r → AfterDone t rs s x label ws r
-after-move s ws {label = label} done tested few is None moved = λ v n k.
-    rw ((label-parts label).0, done.pairs-are) at (moved v (label / 64) n (waited-at n k done tested (minutes-few few) is))
-after-move s ws {label = label} done tested few is (Some m) moved = record {
+    {t rs : List ℕ} {s : States} → Setting t rs s → (ws : List ℕ) {x later : Source} {label : ℕ} → WaitDone t x (label / 64) later → {b : Bool} → StaysDone rs later.at b
+    → label < 1024 → b ≡ true → (r : Option Step) → MoveDone t s later (label % 64) ws r → AfterDone t s x label ws r
+after-move set ws {label = label} done tested few is None moved = λ v n k.
+    rw ((label-parts label).0, done.pairs-are) at (moved v (label / 64) n (waited-at set n k done tested (minutes-few few) is))
+after-move set ws {label = label} done tested few is (Some m) moved = record {
   few = moved.few;
   is-first = λ v n k.
-      rw ((label-parts label).0, done.pairs-are) at (moved.is-first v (label / 64) n (waited-at n k done tested (minutes-few few) is));
+      rw ((label-parts label).0, done.pairs-are) at (moved.is-first v (label / 64) n (waited-at set n k done tested (minutes-few few) is));
 }

@@ -213,9 +213,8 @@ module _ {t rules ws : List ℕ} {s : States} (is-table : IsTable t) (f : FindRe
 
       -- There are bytes for them, so that they can be written.
       module _ (room : 2 * c.steps ≤ length rs) where
-        pub walk-ready : WalkReady t rules s ws₁ rs
+        pub walk-ready : WalkReady t ws₁ rs
         walk-ready = record {
-          setting = setting;
           words = omega (arith, f.room, found.kept);
           near = found.near;
           best = cost c.charge c.steps;
@@ -224,7 +223,7 @@ module _ {t rules ws : List ℕ} {s : States} (is-table : IsTable t) (f : FindRe
         }
 
         -- They were.
-        pub find-written : {ws₂ rs₂ : List ℕ} → WalkDone t s ws₁ rs ws₂ rs₂ → ReadOff t ws rs ws₂ rs₂ (Timetable c.charge c.steps)
+        pub find-written : {ws₂ rs₂ : List ℕ} → WalkDone t ws₁ rs ws₂ rs₂ → ReadOff t ws rs ws₂ rs₂ (Timetable c.charge c.steps)
         find-written {ws₂} {rs₂} w =
             let a = automaton_of t in
             let ks = w.bytes in

@@ -15,6 +15,7 @@ use Rattle.semantics.proofs.Paths.Walk.{Walk}
 use Rattle.semantics.proofs.Paths.WalkOn.{walk-deep, walk-back}
 use Rattle.table.specs.Held.{automaton_of}
 use Rattle.states.specs.declared.States.{States}
+use Rattle.minutes.specs.Edges.{Setting}
 use Rattle.route.proofs.Live.{turns, turns-backtrack}
 use Rattle.timetable.specs.declared.walk.Stand.{Stand}
 use Rattle.timetable.specs.Steps.{goal_graph, no_pair, NoNext}
@@ -23,18 +24,18 @@ use Rattle.timetable.proofs.PairBytes.{label_bytes, bytes-before, last-minutes, 
 use Rattle.timetable.proofs.Walking.{Walking, label-few, ground, stack-fits, target-goal, table_same, within, entry_here, at_here, words-room, tried}
 
 module _
-    {t rs : List ℕ} {s : States} {ws₀ bs₀ : List ℕ} (w : WalkReady t rs s ws₀ bs₀) {ws bs : List ℕ} {z : Stand} (k : Walking w ws bs z)
+    {t rs : List ℕ} {s : States} (setting : Setting t rs s) {ws₀ bs₀ : List ℕ} (w : WalkReady t ws₀ bs₀) {ws bs : List ℕ} {z : Stand} (k : Walking s w ws bs z)
     (none : NoNext t z ws)
     (far : z.node / s.cells ≢ (automaton_of t).goal) where
   all-tried : Walk (goal_graph t) 0 (table ws) k.labels k.at no_pair
-  all-tried = tried w k none
+  all-tried = tried setting w k none
 
   away : Target (goal_graph t) (k.at (length k.labels)) → ⊥
-  away e = far (target-goal w z.node (subst (Target (goal_graph t)) (at_here w k) e))
+  away e = far (target-goal setting w z.node (subst (Target (goal_graph t)) (at_here setting w k) e))
 
   -- There is a pair to take back,
   pub depth-some : 0 < z.depth
-  depth-some = omega (arith, k.counted, walk-deep (ground w) all-tried away)
+  depth-some = omega (arith, k.counted, walk-deep (ground setting w) all-tried away)
 
   abbrev m : ℕ
   m = z.depth - 1
@@ -61,7 +62,7 @@ module _
   label_small : label < 1024
   label_small =
       let e = k.walk.led m (omega (arith, k.counted, depth-some)) in
-      omega (arith, label-few w (k.at m) e.edge e.leaves, e.labelled)
+      omega (arith, label-few setting w (k.at m) e.edge e.leaves, e.labelled)
 
   -- Its bytes stand in the route.
   written : take (2 * m + 2) bs ≡ label_bytes (js ++ label ∷ [])
@@ -80,10 +81,10 @@ module _
 
   pub backtrack-ready : BacktrackReady s.count z ws bs
   backtrack-ready = record {
-    there = omega (arith, (entry_here w k).0, words-room w k);
+    there = omega (arith, (entry_here setting w k).0, words-room setting w k);
     deep = depth-some;
-    stack = omega (arith, within w k, words-room w k);
-    room = omega (arith, within w k, k.sized, w.room);
+    stack = omega (arith, within setting w k, words-room setting w k);
+    room = omega (arith, within setting w k, k.sized, w.room);
     minutes = omega (arith, minutes-are, label_small);
     made = omega (arith, made-is);
   }
@@ -93,21 +94,21 @@ module _
   ws' = set ws (2 * z.node) infinity
 
   gone : table ws' (k.at (length k.labels)) ≡ unreached
-  gone = ap (table ws') (at_here w k) ∙ table-unreached ws' z.node (get_or-set_same ws (2 * z.node) infinity 0 backtrack-ready.there)
+  gone = ap (table ws') (at_here setting w k) ∙ table-unreached ws' z.node (get_or-set_same ws (2 * z.node) infinity 0 backtrack-ready.there)
 
   others : (v : ℕ) → v < (goal_graph t).nodes → v ≢ k.at (length k.labels) → table ws' v ≡ table ws v
   others v h n =
-      let x : v ≢ z.node = λ e. n (e ∙ sym (at_here w k)) in
+      let x : v ≢ z.node = λ e. n (e ∙ sym (at_here setting w k)) in
       table_same ws ws' v
       (get_or-set_other ws (2 * z.node) (2 * v) infinity 0 (λ e. x (omega arith)))
       (get_or-set_other ws (2 * z.node) (2 * v + 1) infinity 0 (λ e. omega arith))
 
   shorter : Walk (goal_graph t) 0 (table ws') js k.at (suc label)
-  shorter = walk-back (ground w) all-tried away js label last-label (table ws') gone others k.at (λ i h. refl)
+  shorter = walk-back (ground setting w) all-tried away js label last-label (table ws') gone others k.at (λ i h. refl)
 
   stack' : (i : ℕ) → i < z.depth → get_or ws' (2 * s.count + i) 0 ≡ k.at i
   stack' i h =
-      get_or-set_other ws (2 * z.node) (2 * s.count + i) infinity 0 (λ e. let b = (entry_here w k).0 in omega arith) ∙ k.stack i h
+      get_or-set_other ws (2 * z.node) (2 * s.count + i) infinity 0 (λ e. let b = (entry_here setting w k).0 in omega arith) ∙ k.stack i h
 
   -- The pair was taken back.
   module _ {vs : List ℕ} {y : Stand} (f : Backtracked s.count z ws bs vs y) where
@@ -119,7 +120,7 @@ module _
     next-label : y.label ≡ suc label
     next-label = omega (arith, f.label_is, minutes-are, made-is)
 
-    back-here : Walking w ws' bs y
+    back-here : Walking s w ws' bs y
     back-here = record {
       labels = js;
       at = k.at;
@@ -133,26 +134,26 @@ module _
       sized = k.sized;
       words = record {
         rest =
-            drop-set-lt (2 * node_count (automaton_of t)) ws (2 * z.node) infinity (omega (arith, (entry_here w k).0, stack-fits w))
+            drop-set-lt (2 * node_count (automaton_of t)) ws (2 * z.node) infinity (omega (arith, (entry_here setting w k).0, stack-fits setting w))
             ∙ k.words.rest;
         kept = length-set ws (2 * z.node) infinity ∙ k.words.kept;
       };
     }
 
-    pub walking-backtracks : Walking w vs bs y
-    walking-backtracks = subst (λ (v : List ℕ). Walking w v bs y) (sym f.words) back-here
+    pub walking-backtracks : Walking s w vs bs y
+    walking-backtracks = subst (λ (v : List ℕ). Walking s w v bs y) (sym f.words) back-here
 
     -- One turn less is to come: the node was left.
     pub fewer-backtrack :
         turns s.count (length bs₀) (take (2 * s.count) vs) y.depth < turns s.count (length bs₀) (take (2 * s.count) ws) z.depth
     fewer-backtrack =
         let n = 2 * s.count in
-        let inside = (entry_here w k).0 in
-        let known = (reached-words ws z.node _ (entry_here w k).1.2).known in
+        let inside = (entry_here setting w k).0 in
+        let known = (reached-words ws z.node _ (entry_here setting w k).1.2).known in
         let same : take n vs ≡ set (take n ws) (2 * z.node) infinity =
         ap (take n) f.words ∙ take-set-lt n ws (2 * z.node) infinity (omega (arith, inside)) in
         let there : 2 * z.node < length (take n ws) =
-        omega (arith, inside, length-take-le n ws (omega (arith, words-room w k))) in
+        omega (arith, inside, length-take-le n ws (omega (arith, words-room setting w k))) in
         let kept = get_or-take n ws (2 * z.node) 0 (omega (arith, inside)) in
         subst₂ (λ (v : List ℕ) (d : ℕ). turns s.count (length bs₀) v d < turns s.count (length bs₀) (take n ws) z.depth)
         (sym same) (sym f.depth_is)

@@ -17,6 +17,7 @@ use Rattle.semantics.proofs.Paths.Walk.{Tight, Walk, walk_same}
 use Rattle.semantics.proofs.Paths.WalkOn.{walk-short, walk-further}
 use Rattle.table.specs.Held.{automaton_of}
 use Rattle.states.specs.declared.States.{States}
+use Rattle.minutes.specs.Edges.{Setting}
 use Rattle.route.proofs.Live.{turns, turns-advance}
 use Rattle.timetable.specs.declared.walk.Stand.{Stand}
 use Rattle.timetable.specs.declared.walk.Next.{Next}
@@ -37,30 +38,30 @@ module _ (f : ℕ → ℕ) (k x : ℕ) where
   updated-other i e = rw (ne_eqb i k e)
 
 module _
-    {t rs : List ℕ} {s : States} {ws₀ bs₀ : List ℕ} (w : WalkReady t rs s ws₀ bs₀) {ws bs : List ℕ} {z : Stand} (k : Walking w ws bs z)
+    {t rs : List ℕ} {s : States} (setting : Setting t rs s) {ws₀ bs₀ : List ℕ} (w : WalkReady t ws₀ bs₀) {ws bs : List ℕ} {z : Stand} (k : Walking s w ws bs z)
     {r : Next} (next : NextFound t z ws r) where
   -- The edge of the pair.
   pair : TightPair t ws z.node (z.depth + 1) r.label r.node
   pair = next.tight
 
   leaves : Leaves (goal_graph t) (k.at (length k.labels)) pair.edge
-  leaves = subst (λ (v : ℕ). Leaves (goal_graph t) v pair.edge) (sym (at_here w k)) pair.leaves
+  leaves = subst (λ (v : ℕ). Leaves (goal_graph t) v pair.edge) (sym (at_here setting w k)) pair.leaves
 
   tight : Tight (table ws) (length k.labels) (k.at (length k.labels)) pair.edge
-  tight = here-tight w k pair.edge pair.leaves pair.along
+  tight = here-tight setting w k pair.edge pair.leaves pair.along
 
   pub label_small : r.label < 1024
-  label_small = omega (arith, label-few w z.node pair.edge pair.leaves, pair.labelled)
+  label_small = omega (arith, label-few setting w z.node pair.edge pair.leaves, pair.labelled)
 
   -- So the timetable is not yet written.
   pub depth_below : z.depth < w.best.steps
-  depth_below = omega (arith, k.counted, walk-short (ground w) (tried w k next.none_before) pair.edge leaves pair.labelled tight)
+  depth_below = omega (arith, k.counted, walk-short (ground setting w) (tried setting w k next.none_before) pair.edge leaves pair.labelled tight)
 
   pub advance-ready : AdvanceReady s.count z r ws bs
   advance-ready = record {
-    stack = omega (arith, depth_below, words-room w k);
+    stack = omega (arith, depth_below, words-room setting w k);
     room = omega (arith, depth_below, k.sized, w.room);
-    few = omega (arith, (entry_here w k).0, w.setting.few);
+    few = omega (arith, (entry_here setting w k).0, setting.few);
     small = label_small;
   }
 
@@ -79,7 +80,7 @@ module _
 
   longer : Walk (goal_graph t) 0 (table ws) labels' at' 0
   longer =
-      walk-further (ground w) (tried w k next.none_before) pair.edge leaves pair.labelled tight at'
+      walk-further (ground setting w) (tried setting w k next.none_before) pair.edge leaves pair.labelled tight at'
       (λ i h. sym (at_before i (omega (arith, k.counted)))) (at_last (suc (length k.labels)) (omega (arith, k.counted)) ∙ sym pair.leads)
 
   -- The words, the bytes and the place then.
@@ -95,7 +96,7 @@ module _
   -- The words of the states are as they were.
   same-words : (v : ℕ) → v < (goal_graph t).nodes → table ws v ≡ table ws' v
   same-words v h =
-      let b : v < s.count = omega (arith, nodes-are w) in
+      let b : v < s.count = omega (arith, nodes-are setting w) in
       sym
       (table_same ws ws' v
       (get_or-set_other ws (2 * s.count + z.depth) (2 * v) z.node 0 (λ e. omega arith))
@@ -114,7 +115,7 @@ module _
           ∙ k.stack i (omega arith)
           ∙ sym (at_before i (omega arith))
 
-  advance-here : Walking w ws' bs' z'
+  advance-here : Walking s w ws' bs' z'
   advance-here = record {
     labels = labels';
     at = at';
@@ -139,7 +140,7 @@ module _
         ∙ k.sized;
     words = record {
       rest =
-          drop-set-lt (2 * node_count (automaton_of t)) ws (2 * s.count + z.depth) z.node (omega (arith, depth_below, stack-fits w))
+          drop-set-lt (2 * node_count (automaton_of t)) ws (2 * s.count + z.depth) z.node (omega (arith, depth_below, stack-fits setting w))
           ∙ k.words.rest;
       kept = length-set ws (2 * s.count + z.depth) z.node ∙ k.words.kept;
     };
@@ -147,10 +148,10 @@ module _
 
   -- The pair was taken.
   module _ {vs cs : List ℕ} {y : Stand} (f : Advanced s.count z r ws bs vs cs y) where
-    pub walking-advances : Walking w vs cs y
+    pub walking-advances : Walking s w vs cs y
     walking-advances =
-        subst (λ (x : Stand). Walking w vs cs x) (sym f.stand)
-        (subst₂ (λ (v c : List ℕ). Walking w v c z') (sym f.words) (sym f.route) advance-here)
+        subst (λ (x : Stand). Walking s w vs cs x) (sym f.stand)
+        (subst₂ (λ (v c : List ℕ). Walking s w v c z') (sym f.words) (sym f.route) advance-here)
 
     -- One turn less is to come.
     pub fewer-advance :

@@ -27,6 +27,7 @@ use Rattle.table.specs.Fields.{most_price}
 use Rattle.table.specs.Held.{automaton_of}
 use Rattle.table.specs.Theorems.Access.{table-proper, amounts-within}
 use Rattle.states.specs.declared.States.{States}
+use Rattle.minutes.specs.Edges.{Setting}
 use Rattle.states.specs.Laws.Bounds.{timers-some, timers-few, ceiling-few, cells-between}
 use Rattle.timetable.specs.declared.walk.Stand.{Stand}
 use Rattle.timetable.specs.Steps.{goal_graph, Along, NoneTight, NextReady, no_pair}
@@ -47,7 +48,7 @@ corners-three x (suc (suc zero)) h k = omega arith
 corners-three x (suc (suc (suc zero))) h k = omega arith
 corners-three x (suc (suc (suc (suc n)))) h k = absurd (omega arith)
 
-module _ {t rs : List ℕ} {s : States} {ws₀ bs₀ : List ℕ} (w : WalkReady t rs s ws₀ bs₀) where
+module _ {t rs : List ℕ} {s : States} (setting : Setting t rs s) {ws₀ bs₀ : List ℕ} (w : WalkReady t ws₀ bs₀) where
   abbrev a : Automaton
   a = automaton_of t
 
@@ -55,19 +56,19 @@ module _ {t rs : List ℕ} {s : States} {ws₀ bs₀ : List ℕ} (w : WalkReady 
   l = (automaton_of t).goal
 
   pub proper : Proper (automaton_of t)
-  proper = table-proper t w.setting.is-table
+  proper = table-proper t setting.is-table
 
   -- The nodes of the graph are the states of the struct.
   pub nodes-are : (goal_graph t).nodes ≡ s.count
   unfolding minute_graph
-  nodes-are = sym w.setting.is-states.count-is
+  nodes-are = sym setting.is-states.count-is
 
   -- Its edges have labels below 1,024, which no wait and no move goes beyond.
   pub label-few : (v : ℕ) (e : Edge) → Leaves (goal_graph t) v e → e.label < 1024
   label-few v e m =
       let o = edge_of a proper l v e m in
       let minutes = pair-minutes a proper o.pair _ o.allowed in
-      omega (arith, ap (λ (x : Edge). x.label) o.is, minutes, ceiling-few t w.setting.is-table 0, pair-few a proper o.pair _ o.allowed)
+      omega (arith, ap (λ (x : Edge). x.label) o.is, minutes, ceiling-few t setting.is-table 0, pair-few a proper o.pair _ o.allowed)
 
   -- What the walk goes by.
   pub ground : Ground (goal_graph t) 0 no_pair w.best
@@ -87,36 +88,36 @@ module _ {t rs : List ℕ} {s : States} {ws₀ bs₀ : List ℕ} (w : WalkReady 
   -- No edge weighs more than 15 minutes and a move.
   pub weights : WeightsWithin (goal_graph t) (16 * most_price)
   weights v e h m =
-      let c : get_or a.ceilings 0 0 + 1 ≤ 16 = omega (arith, ceiling-few t w.setting.is-table 0) in
-      le_trans (minute-weights a proper l most_price (amounts-within t w.setting.is-table) v e h m) (mul-le-mul_right most_price c)
+      let c : get_or a.ceilings 0 0 + 1 ≤ 16 = omega (arith, ceiling-few t setting.is-table 0) in
+      le_trans (minute-weights a proper l most_price (amounts-within t setting.is-table) v e h m) (mul-le-mul_right most_price c)
 
   -- So its charge is far below infinity.
   pub charge-few : 16 * most_price + w.best.charge < infinity
   charge-few =
       let most = least-charge (goal_graph t) ground.closed 0 ground.start w.best (start-least ground) (16 * most_price) weights in
-      omega (arith, most, nodes-are, w.setting.few)
+      omega (arith, most, nodes-are, setting.few)
 
   -- The stack of the walk fits behind the words of the states.
   pub stack-fits : 2 * s.count + w.best.steps < 2 * node_count (automaton_of t)
   unfolding node_count state_count
   stack-fits =
-      let ok = w.setting.is-table in
+      let ok = setting.is-table in
       let three = corners-three (length a.modes * cell_count a.ceilings) (timers a) (timers-some t ok) (timers-few t ok) in
-      let count : s.count ≡ length a.modes * cell_count a.ceilings = w.setting.is-states.count-is in
+      let count : s.count ≡ length a.modes * cell_count a.ceilings = setting.is-states.count-is in
       omega (arith, three, count, pairs-few)
 
   -- A mode has states.
   pub cells-some : (1 ≤ s.cells) × (s.cells < 65536)
-  cells-some = omega (arith, cells-between t w.setting.is-table s w.setting.is-states)
+  cells-some = omega (arith, cells-between t setting.is-table s setting.is-states)
 
   -- The targets are the nodes of the goal.
   pub target-goal : (v : ℕ) → Target (goal_graph t) v → v / s.cells ≡ (automaton_of t).goal
   unfolding minute_graph
-  target-goal v e = ap (λ (n : ℕ). v / n) w.setting.is-states.cells_are ∙ eqb-true (v / cell_count a.ceilings) l e
+  target-goal v e = ap (λ (n : ℕ). v / n) setting.is-states.cells_are ∙ eqb-true (v / cell_count a.ceilings) l e
 
   pub goal-target : (v : ℕ) → v / s.cells ≡ (automaton_of t).goal → Target (goal_graph t) v
   unfolding minute_graph
-  goal-target v e = eq-eqb (v / cell_count a.ceilings) l (ap (λ (n : ℕ). v / n) (sym w.setting.is-states.cells_are) ∙ e)
+  goal-target v e = eq-eqb (v / cell_count a.ceilings) l (ap (λ (n : ℕ). v / n) (sym setting.is-states.cells_are) ∙ e)
 
   -- By the words an edge is tight exactly if its end is reached along it.
   module _ (ws : List ℕ) (v n c : ℕ) (entry : table ws v ≡ reached (cost c n)) (e : Edge) where
@@ -139,7 +140,7 @@ module _ {t rs : List ℕ} {s : States} {ws₀ bs₀ : List ℕ} (w : WalkReady 
 
 -- The walk stands at z. It took the labels ks, whose bytes are the first of the route bytes bs; `at i` is the node to which i of them led, and those
 -- before the one at hand are on the stack.
-pub record Walking {t rs : List ℕ} {s : States} {ws₀ bs₀ : List ℕ} (w : WalkReady t rs s ws₀ bs₀) (ws bs : List ℕ) (z : Stand) : Type 0 where
+pub record Walking (s : States) {t ws₀ bs₀ : List ℕ} (w : WalkReady t ws₀ bs₀) (ws bs : List ℕ) (z : Stand) : Type 0 where
   pub labels : List ℕ
   pub at : ℕ → ℕ
   pub counted : length labels ≡ z.depth
@@ -153,16 +154,16 @@ pub record Walking {t rs : List ℕ} {s : States} {ws₀ bs₀ : List ℕ} (w : 
   pub sized : length bs ≡ length bs₀
   pub words : RestKept t ws₀ ws
 
-module _ {t rs : List ℕ} {s : States} {ws₀ bs₀ : List ℕ} (w : WalkReady t rs s ws₀ bs₀) where
+module _ {t rs : List ℕ} {s : States} (setting : Setting t rs s) {ws₀ bs₀ : List ℕ} (w : WalkReady t ws₀ bs₀) where
   -- It begins at the start.
-  pub walking-begins : Walking w ws₀ bs₀ (record { node = 0; depth = 0; label = 0 })
+  pub walking-begins : Walking s w ws₀ bs₀ (record { node = 0; depth = 0; label = 0 })
   walking-begins = record {
     labels = [];
     at = λ i. 0;
     counted = refl;
     here = refl;
     stack = λ i h. absurd (omega arith);
-    walk = walk_begins (ground w) (table ws₀) w.near (λ i. 0) refl;
+    walk = walk_begins (ground setting w) (table ws₀) w.near (λ i. 0) refl;
     few = omega arith;
     bytes = refl;
     rest = refl;
@@ -170,10 +171,10 @@ module _ {t rs : List ℕ} {s : States} {ws₀ bs₀ : List ℕ} (w : WalkReady 
     words = record { rest = refl; kept = refl };
   }
 
-  module _ {ws bs : List ℕ} {z : Stand} (k : Walking w ws bs z) where
+  module _ {ws bs : List ℕ} {z : Stand} (k : Walking s w ws bs z) where
     -- It is no deeper than the timetable is long.
     pub within : z.depth ≤ w.best.steps
-    within = omega (arith, k.counted, walk-few (ground w) k.walk)
+    within = omega (arith, k.counted, walk-few (ground setting w) k.walk)
 
     pub at_here : k.at (length k.labels) ≡ z.node
     at_here = ap k.at k.counted ∙ k.here
@@ -181,8 +182,8 @@ module _ {t rs : List ℕ} {s : States} {ws₀ bs₀ : List ℕ} (w : WalkReady 
     -- The node at hand is reached in as many pairs, at no more than the charge of the timetable.
     pub entry_here : (z.node < s.count) × ((c : ℕ) × (c ≤ w.best.charge) × (table ws z.node ≡ reached (cost c z.depth)))
     entry_here =
-        let o = walk-entry (ground w) k.walk (length k.labels) (omega arith) in (
-          omega (arith, o.0, at_here, nodes-are w),
+        let o = walk-entry (ground setting w) k.walk (length k.labels) (omega arith) in (
+          omega (arith, o.0, at_here, nodes-are setting w),
           (
             o.1.0,
             o.1.1,
@@ -195,32 +196,31 @@ module _ {t rs : List ℕ} {s : States} {ws₀ bs₀ : List ℕ} (w : WalkReady 
 
     -- There are words for all states, and for the stack.
     pub words-room : 2 * s.count + w.best.steps < length ws
-    words-room = omega (arith, w.words, stack-fits w, k.words.kept)
+    words-room = omega (arith, w.words, stack-fits setting w, k.words.kept)
 
-    pub ready : NextReady t rs s z ws
+    pub ready : NextReady s z ws
     ready = record {
       at-node = record {
-        setting = w.setting;
         room = omega (arith, words-room);
         inside = entry_here.0;
-        sum = omega (arith, charge-here, entry_here.1.1, charge-few w);
+        sum = omega (arith, charge-here, entry_here.1.1, charge-few setting w);
       };
       few = k.few;
-      short = omega (arith, within, pairs-few w, w.setting.few);
+      short = omega (arith, within, pairs-few setting w, setting.few);
     }
 
     -- In the goal the timetable is written.
-    pub walking-ends : z.node / s.cells ≡ (automaton_of t).goal → WalkDone t s ws₀ bs₀ ws bs
+    pub walking-ends : z.node / s.cells ≡ (automaton_of t).goal → WalkDone t ws₀ bs₀ ws bs
     walking-ends e =
-        let goal : Target (goal_graph t) (k.at (length k.labels)) = subst (Target (goal_graph t)) (sym at_here) (goal-target w z.node e) in
-        let o = walk_ends (ground w) k.walk goal in
+        let goal : Target (goal_graph t) (k.at (length k.labels)) = subst (Target (goal_graph t)) (sym at_here) (goal-target setting w z.node e) in
+        let o = walk_ends (ground setting w) k.walk goal in
         let all : 2 * z.depth ≡ 2 * w.best.steps = omega (arith, k.counted, o.1) in
         record {
           best = w.best;
           is-best = w.is-best;
           bytes = label_bytes k.labels;
           is-timetable =
-              timetable-found (automaton_of t) (proper w) (automaton_of t).goal w.best.charge w.best.steps k.labels o.0;
+              timetable-found (automaton_of t) (proper setting w) (automaton_of t).goal w.best.charge w.best.steps k.labels o.0;
           counted = omega (arith, label-bytes-length k.labels, o.1);
           stored =
               sym (take-append-drop (2 * z.depth) bs)
@@ -231,21 +231,21 @@ module _ {t rs : List ℕ} {s : States} {ws₀ bs₀ : List ℕ} (w : WalkReady 
     -- What is tight by the words is tight in the walk.
     pub tight-here : (e : Edge) → Tight (table ws) (length k.labels) (k.at (length k.labels)) e → Along ws z.node (z.depth + 1) e
     tight-here e x =
-        tight-along w ws z.node z.depth entry_here.1.0 entry_here.1.2 e
+        tight-along setting w ws z.node z.depth entry_here.1.0 entry_here.1.2 e
         (subst₂ (λ (n v : ℕ). Tight (table ws) n v e) k.counted at_here x)
 
     pub here-tight :
         (e : Edge) → Leaves (goal_graph t) z.node e → Along ws z.node (z.depth + 1) e
         → Tight (table ws) (length k.labels) (k.at (length k.labels)) e
     here-tight e m x =
-        let light = weights w z.node e (omega (arith, entry_here.0, nodes-are w)) m in
+        let light = weights setting w z.node e (omega (arith, entry_here.0, nodes-are setting w)) m in
         subst₂ (λ (n v : ℕ). Tight (table ws) n v e) (sym k.counted) (sym at_here)
-        (along-tight w ws z.node z.depth entry_here.1.0 entry_here.1.2 e
-        (omega (arith, light, entry_here.1.1, charge-few w)) x)
+        (along-tight setting w ws z.node z.depth entry_here.1.0 entry_here.1.2 e
+        (omega (arith, light, entry_here.1.1, charge-few setting w)) x)
 
     -- The labels before this one were tried.
     pub tried :
         {label : ℕ} → NoneTight t ws z.node (z.depth + 1) z.label label → Walk (goal_graph t) 0 (table ws) k.labels k.at label
     tried {label} none =
-        walk-tried (ground w) k.walk label
+        walk-tried (ground setting w) k.walk label
         (λ e m from to x. none e (subst (λ (v : ℕ). Leaves (goal_graph t) v e) at_here m) from to (tight-here e x))

@@ -12,7 +12,7 @@ pub data Answer : Type 0 where
   Timetable : ℕ → ℕ → Answer
 
 -- What the code answers.
-abbrev pub told : Result (Option Cost) Refusal → Answer
-told (Ok (Some cost)) = Timetable cost.charge cost.steps
-told (Ok None) = NoRoute
-told (Err refusal) = Refused (number refusal)
+abbrev pub told_timetable : Result (Option Cost) Refusal → Answer
+told_timetable (Ok (Some cost)) = Timetable cost.charge cost.steps
+told_timetable (Ok None) = NoRoute
+told_timetable (Err refusal) = Refused (number refusal)

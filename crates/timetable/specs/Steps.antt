@@ -11,7 +11,7 @@ use Rattle.states.specs.declared.States.{States}
 use Rattle.minutes.specs.declared.waits.Source.{Source}
 use Rattle.states.specs.States.{StandsAt}
 use Rattle.minutes.specs.Waits.{Room}
-use Rattle.minutes.specs.Edges.{Setting, graph_of, state_of}
+use Rattle.minutes.specs.Edges.{graph_of, state_of}
 use Rattle.timetable.specs.declared.walk.Stand.{Stand}
 use Rattle.timetable.specs.declared.walk.Step.{Step}
 use Rattle.timetable.specs.declared.walk.Next.{Next}
@@ -53,8 +53,7 @@ pub record FirstTight (t ws : List ℕ) (v pairs low high label w : ℕ) : Type 
   pub none_before : NoneTight t ws v pairs low label
 
 -- What is known of the node v at which the walk stands: no sum with a wait and a price overflows.
-pub record AtNode (t rs : List ℕ) (s : States) (ws : List ℕ) (v : ℕ) : Type 0 where
-  pub setting : Setting t rs s
+pub record AtNode (s : States) (ws : List ℕ) (v : ℕ) : Type 0 where
   pub room : 2 * s.count ≤ length ws
   pub inside : v < s.count
   pub sum : 16 * most_price + charge_at ws v < infinity
@@ -67,54 +66,54 @@ pub record WaitedAt (t : List ℕ) (x : Source) (ws : List ℕ) (v d : ℕ) : Ty
   pub room : Room x.at.values
   pub charge-is : x.charge ≡ d * (mode_at (automaton_of t) (state_of t v).mode).rate + charge_at ws v
 
-pub record MoveReady (t rs : List ℕ) (s : States) (x : Source) (first : ℕ) (ws : List ℕ) : Type 0 where
+pub record MoveReady (t : List ℕ) (s : States) (x : Source) (first : ℕ) (ws : List ℕ) : Type 0 where
   pub node : ℕ
   pub minutes : ℕ
-  pub at-node : AtNode t rs s ws node
+  pub at-node : AtNode s ws node
   pub waited : WaitedAt t x ws node minutes
   pub few : first < 64
 
 -- For every node and wait for which it was: the first of the labels of that wait, from the move `first` on.
-pub record MoveFound (t rs : List ℕ) (s : States) (x : Source) (first : ℕ) (ws : List ℕ) (r : Step) : Type 0 where
+pub record MoveFound (t : List ℕ) (s : States) (x : Source) (first : ℕ) (ws : List ℕ) (r : Step) : Type 0 where
   pub few : r.made < 64
   pub is-first :
-      (v d : ℕ) → AtNode t rs s ws v → WaitedAt t x ws v d
+      (v d : ℕ) → AtNode s ws v → WaitedAt t x ws v d
       → FirstTight t ws v x.pairs (64 * d + first) (64 * d + 64) (64 * d + r.made) r.node
 
-abbrev pub NoMove : List ℕ → List ℕ → States → Source → ℕ → List ℕ → Type 0
-NoMove t rs s x first ws =
-    (v d : ℕ) → AtNode t rs s ws v → WaitedAt t x ws v d → NoneTight t ws v x.pairs (64 * d + first) (64 * d + 64)
+abbrev pub NoMove : List ℕ → States → Source → ℕ → List ℕ → Type 0
+NoMove t s x first ws =
+    (v d : ℕ) → AtNode s ws v → WaitedAt t x ws v d → NoneTight t ws v x.pairs (64 * d + first) (64 * d + 64)
 
-abbrev pub MoveDone : List ℕ → List ℕ → States → Source → ℕ → List ℕ → Option Step → Type 0
-MoveDone t rs s x first ws r = MatchOption r (NoMove t rs s x first ws) (MoveFound t rs s x first ws)
+abbrev pub MoveDone : List ℕ → States → Source → ℕ → List ℕ → Option Step → Type 0
+MoveDone t s x first ws r = MatchOption r (NoMove t s x first ws) (MoveFound t s x first ws)
 
 -- The struct is of the state of v, with its charge.
 pub record StandingAt (t : List ℕ) (x : Source) (ws : List ℕ) (v : ℕ) : Type 0 where
   pub stands : StandsAt (automaton_of t) (state_of t v) x.at
   pub charge-is : x.charge ≡ charge_at ws v
 
-pub record AfterReady (t rs : List ℕ) (s : States) (x : Source) (label : ℕ) (ws : List ℕ) : Type 0 where
+pub record AfterReady (t : List ℕ) (s : States) (x : Source) (label : ℕ) (ws : List ℕ) : Type 0 where
   pub node : ℕ
-  pub at-node : AtNode t rs s ws node
+  pub at-node : AtNode s ws node
   pub standing : StandingAt t x ws node
   pub few : label < 1024
 
 -- For every node for which it was: the first of the labels of the label's wait, from it on.
-pub record AfterFound (t rs : List ℕ) (s : States) (x : Source) (label : ℕ) (ws : List ℕ) (r : Step) : Type 0 where
+pub record AfterFound (t : List ℕ) (s : States) (x : Source) (label : ℕ) (ws : List ℕ) (r : Step) : Type 0 where
   pub few : r.made < 64
   pub is-first :
-      (v : ℕ) → AtNode t rs s ws v → StandingAt t x ws v
+      (v : ℕ) → AtNode s ws v → StandingAt t x ws v
       → FirstTight t ws v x.pairs label (64 * (label / 64) + 64) (64 * (label / 64) + r.made) r.node
 
-abbrev pub NoAfter : List ℕ → List ℕ → States → Source → ℕ → List ℕ → Type 0
-NoAfter t rs s x label ws =
-    (v : ℕ) → AtNode t rs s ws v → StandingAt t x ws v → NoneTight t ws v x.pairs label (64 * (label / 64) + 64)
+abbrev pub NoAfter : List ℕ → States → Source → ℕ → List ℕ → Type 0
+NoAfter t s x label ws =
+    (v : ℕ) → AtNode s ws v → StandingAt t x ws v → NoneTight t ws v x.pairs label (64 * (label / 64) + 64)
 
-abbrev pub AfterDone : List ℕ → List ℕ → States → Source → ℕ → List ℕ → Option Step → Type 0
-AfterDone t rs s x label ws r = MatchOption r (NoAfter t rs s x label ws) (AfterFound t rs s x label ws)
+abbrev pub AfterDone : List ℕ → States → Source → ℕ → List ℕ → Option Step → Type 0
+AfterDone t s x label ws r = MatchOption r (NoAfter t s x label ws) (AfterFound t s x label ws)
 
-pub record NextReady (t rs : List ℕ) (s : States) (z : Stand) (ws : List ℕ) : Type 0 where
-  pub at-node : AtNode t rs s ws z.node
+pub record NextReady (s : States) (z : Stand) (ws : List ℕ) : Type 0 where
+  pub at-node : AtNode s ws z.node
   pub few : z.label ≤ 1024
   pub short : z.depth < 65535
 

@@ -10,16 +10,13 @@ use Rattle.semantics.specs.Graph.Distance.{distance}
 use Rattle.semantics.specs.Answers.Walk.{NearCosts}
 use Rattle.table.specs.Held.{automaton_of}
 use Rattle.route.specs.Walk.{RestKept}
-use Rattle.states.specs.declared.States.{States}
-use Rattle.minutes.specs.Edges.{Setting}
 use Rattle.timetable.specs.declared.walk.Stand.{Stand}
 use Rattle.timetable.specs.declared.walk.Next.{Next}
 use Rattle.timetable.specs.Steps.{goal_graph}
 
 -- The words are those of a search of the table for its goal, which is reached; behind them there is room for a stack of as many nodes, and there are route
 -- bytes for the pairs.
-pub record WalkReady (t rs : List ℕ) (s : States) (ws bs : List ℕ) : Type 0 where
-  pub setting : Setting t rs s
+pub record WalkReady (t ws bs : List ℕ) : Type 0 where
   pub words : 2 * node_count (automaton_of t) ≤ length ws
   pub near : NearCosts (goal_graph t) 0 (table ws)
   pub best : Cost
@@ -27,7 +24,7 @@ pub record WalkReady (t rs : List ℕ) (s : States) (ws bs : List ℕ) : Type 0 
   pub room : 2 * best.steps ≤ length bs
 
 -- The timetable of the definitions stands in the first route bytes, and the others are as they were.
-pub record WalkDone (t : List ℕ) (s : States) (ws bs ws' bs' : List ℕ) : Type 0 where
+pub record WalkDone (t ws bs ws' bs' : List ℕ) : Type 0 where
   pub best : Cost
   pub is-best : distance (goal_graph t) 0 ≡ reached best
   pub bytes : List ℕ

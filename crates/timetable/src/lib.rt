@@ -3,7 +3,7 @@
 
 ghost use Rattle.std.specs.Prelude.{◌≡◌};
 ghost use Rattle.table.specs.Held.{automaton_of};
-ghost use Rattle.timetable.specs.Answers.{told};
+ghost use Rattle.timetable.specs.Answers.{told_timetable};
 ghost use Rattle.timetable.specs.Timetabled.{outcome, timetabled_table, timetabled};
 ghost use Rattle.timetable.specs.Promise.{KeepsTimetable};
 ghost use Rattle.timetable.specs.Found.{FindReady, ReadOff};
@@ -21,9 +21,9 @@ use table::refusals::Refusal;
 // Gives the timetable of the table that the bytes are, with the memory lent for the search and for the pairs: its charge and its number of pairs, which are
 // steps here, if there is one.
 pub fn timetable(bytes: &[u8], words: &mut [u32], route: &mut [u8]) -> Result<Option<Cost>, Refusal>
-    ensures outcome { outcome (told result) words.new route.new
+    ensures outcome { outcome (told_timetable result) words.new route.new
         ≡ timetabled bytes.now words.old route.old }
-    ensures promise { KeepsTimetable bytes.now words.old route.new (told result) }
+    ensures promise { KeepsTimetable bytes.now words.old route.new (told_timetable result) }
 {
     let table = reader::table_of(bytes)?;
     timetable_of(words, route, &table)
@@ -31,7 +31,7 @@ pub fn timetable(bytes: &[u8], words: &mut [u32], route: &mut [u8]) -> Result<Op
 
 // That of a table that was read. 12 comes "directly after 7".
 fn timetable_of(words: &mut [u32], route: &mut [u8], table: &Table) -> Result<Option<Cost>, Refusal>
-    ensures { outcome (told result) words.new route.new
+    ensures { outcome (told_timetable result) words.new route.new
         ≡ timetabled_table (automaton_of table.now.bytes) words.old route.old }
 {
     if !closed::is_closed(table) {
@@ -46,7 +46,7 @@ fn timetable_of(words: &mut [u32], route: &mut [u8], table: &Table) -> Result<Op
 // Searches for it, and writes its pairs.
 fn find(words: &mut [u32], route: &mut [u8], table: &Table) -> Result<Option<Cost>, Refusal>
     requires { FindReady table.now.bytes words.old }
-    ensures { ReadOff table.now.bytes words.old route.old words.new route.new (told result) }
+    ensures { ReadOff table.now.bytes words.old route.old words.new route.new (told_timetable result) }
 {
     let mut rules = [0u8; RULES];
     rules::make(table, &mut rules);

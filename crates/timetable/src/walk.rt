@@ -39,16 +39,13 @@ fn reached_at(words: &[u32], node: usize, charge: u32, pairs: u32) -> bool
     requires { TightRoom node words.now }
     ensures { Tells words.now node charge pairs result }
 {
-    if words[2 * node] != charge {
-        return false;
-    }
-    words[2 * node + 1] == pairs
+    words[2 * node] == charge && words[2 * node + 1] == pairs
 }
 
 // The first of the moves of a state, from `first` on, whose edge is tight: by the words its end is reached along it.
 fn tight_move(words: &[u32], minutes: &MinuteGraph, from: Source, first: usize) -> Option<Step>
-    requires { MoveReady minutes.now.table.now.bytes minutes.now.rules.now minutes.now.states from first words.now }
-    ensures { MoveDone minutes.now.table.now.bytes minutes.now.rules.now minutes.now.states from first words.now result }
+    requires { MoveReady minutes.now.table.now.bytes minutes.now.states from first words.now }
+    ensures { MoveDone minutes.now.table.now.bytes minutes.now.states from first words.now result }
 {
     let values = from.at.values;
     let halves = states::halves(values);
@@ -66,8 +63,8 @@ fn tight_move(words: &[u32], minutes: &MinuteGraph, from: Source, first: usize) 
 
 // The same after the wait of a label, from its move on.
 fn tight_after(words: &[u32], minutes: &MinuteGraph, from: Source, label: u32) -> Option<Step>
-    requires { AfterReady minutes.now.table.now.bytes minutes.now.rules.now minutes.now.states from label words.now }
-    ensures { AfterDone minutes.now.table.now.bytes minutes.now.rules.now minutes.now.states from label words.now result }
+    requires { AfterReady minutes.now.table.now.bytes minutes.now.states from label words.now }
+    ensures { AfterDone minutes.now.table.now.bytes minutes.now.states from label words.now result }
 {
     let later = waits::wait(minutes, from, (label / MINUTE) as u8);
     if waits::stays(minutes.rules, later.at) {
@@ -78,7 +75,7 @@ fn tight_after(words: &[u32], minutes: &MinuteGraph, from: Source, label: u32) -
 
 // The first pair that was not tried whose edge is tight.
 fn next_pair(words: &[u32], minutes: &MinuteGraph, stand: Stand) -> Option<Next>
-    requires { NextReady minutes.now.table.now.bytes minutes.now.rules.now minutes.now.states stand words.now }
+    requires { NextReady minutes.now.states stand words.now }
     ensures { NextDone minutes.now.table.now.bytes stand words.now result }
 {
     let states = minutes.states;
@@ -89,6 +86,7 @@ fn next_pair(words: &[u32], minutes: &MinuteGraph, stand: Stand) -> Option<Next>
         charge: words[2 * stand.node],
         pairs: stand.depth as u32 + 1,
     };
+    // The first label may stand within a minute: a range of waits would have to carry the label beside it.
     let mut label = stand.label;
     while label / MINUTE <= longest {
         let wait = label - label % MINUTE;
@@ -135,8 +133,8 @@ fn backtrack(words: &mut [u32], route: &[u8], count: usize, stand: Stand) -> Sta
 
 // "take the fewest pairs, then the first in byte order": goes on by the least pair whose edge is tight, and a pair back where there is none.
 pub fn walk(words: &mut [u32], route: &mut [u8], minutes: &MinuteGraph)
-    requires { WalkReady minutes.now.table.now.bytes minutes.now.rules.now minutes.now.states words.old route.old }
-    ensures { WalkDone minutes.now.table.now.bytes minutes.now.states words.old route.old words.new route.new }
+    requires { WalkReady minutes.now.table.now.bytes words.old route.old }
+    ensures { WalkDone minutes.now.table.now.bytes words.old route.old words.new route.new }
 {
     let goal = minutes.table.goal();
     let states = minutes.states;

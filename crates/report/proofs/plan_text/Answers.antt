@@ -1,5 +1,6 @@
 -- `report::plan_text` meets its contract.
 -- Assumes nothing.
+use mathlib.Core.Path.{sym}
 use Rattle.report.proofs.Filling.{text-put}
 use Rattle.report.proofs.plan_text.Goals as goal
 

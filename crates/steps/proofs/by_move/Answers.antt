@@ -13,20 +13,20 @@ use Rattle.steps.proofs.by_move.Goals as goal
 
 pub halves-halves-requires : goal.halves-halves-requires
 halves-halves-requires c =
-    let w = c.requires.0 in
+    let w = c.requires in
     (w.here.corner.valid, place-half-room c.args.corners.now.table.now.bytes w.ready.setting.is-table (place_at c.args.at) w.here.corner.place)
 
 pub loop-next-init : goal.loop-next-init
 loop-next-init c =
-    let w = c.requires.0 in
+    let w = c.requires in
     let first =
     c.move_from-next.ensures c.args.corners.now.table.now.bytes
-    (w.ready.setting.is-table, c.requires.1, w.here.corner.place.in-modes, omega (arith, c.if-stand-ge-DELAY.false)) in
+    (w.ready.setting.is-table, c.args.corners.now.setting.is-rules, w.here.corner.place.in-modes, omega (arith, c.if-stand-ge-DELAY.false)) in
     record {
       byte = first.0;
       named = first.1;
       move = first.2.move;
-      silent = silent-first c.requires.0 c.requires.1 c.halves-halves.ensures first.2;
+      silent = silent-first c.requires c.args.corners.now.setting.is-rules c.halves-halves.ensures first.2;
       images-are = images-none _;
     }
 
@@ -38,7 +38,7 @@ turn c = turn-at c.loop-next.invariant c.in-Some.is
 pub along_move-step-requires : goal.along_move-step-requires
 along_move-step-requires c =
     let here = turn (goal.at.along_move-step-requires c).In-Some in
-    along-ready c.requires.0 c.requires.1 c.halves-halves.ensures here.move here.some c.resets.ensures c.image-by_resets.ensures.is
+    along-ready c.requires c.args.corners.now.setting.is-rules c.halves-halves.ensures here.move here.some c.resets.ensures c.image-by_resets.ensures.is
 
 pub returns-then-is_some : goal.returns-then-is_some
 returns-then-is_some c =
@@ -48,23 +48,23 @@ returns-then-is_some c =
 pub next_move-next-requires : goal.next_move-next-requires
 next_move-next-requires c =
     let here = turn (goal.at.next_move-next-requires c).In-Some in
-    after-ready c.requires.1 (here.move.there here.some) c.after.ensures
+    after-ready c.args.corners.now.setting.is-rules (here.move.there here.some) c.after.ensures
 
 pub loop-next-smaller : goal.loop-next-smaller
 loop-next-smaller c =
     let here = turn (goal.at.loop-next-smaller c).In-Some in
-    let after = turn-next here c.requires.1 c.after.ensures c.next_move-next.ensures in
+    let after = turn-next here c.args.corners.now.setting.is-rules c.after.ensures c.next_move-next.ensures in
     rw c.in-Some.is (left-less here.some after.1 (omega (arith, after.2.low)))
 
 pub loop-next-preserved : goal.loop-next-preserved
 loop-next-preserved c =
     let here = turn (goal.at.loop-next-preserved c).In-Some in
-    let after = turn-next here c.requires.1 c.after.ensures c.next_move-next.ensures in record {
+    let after = turn-next here c.args.corners.now.setting.is-rules c.after.ensures c.next_move-next.ensures in record {
       byte = after.0;
       named = after.1;
       move = after.2.move;
       silent =
-          silent-next c.requires.0 c.requires.1 c.halves-halves.ensures here.silent c.along_move-step.ensures
+          silent-next c.requires c.args.corners.now.setting.is-rules c.halves-halves.ensures here.silent c.along_move-step.ensures
           (sym c.is_some.ensures ∙ c.if-is_some.false) after.2;
       images-are = c.image-by_resets.ensures.images;
     }

@@ -7,10 +7,9 @@ use Rattle.steps.proofs.led_by_delay.Goals as goal
 
 pub loop-i-preserved : goal.loop-i-preserved
 loop-i-preserved c =
-    let prices = c.prices-prices.result in
-    (omega arith, delays-more prices c.args.top c.args.rate c.delay_weight-weight.ensures c.loop-i.invariant.1 c.lead-next.ensures)
+    delays-more c.prices-prices.result c.args.top c.args.rate c.delay_weight-weight.ensures c.loop-i.invariant c.lead-next.ensures
 
 pub returns : goal.returns
 returns c =
     delays-all c.prices-prices.result c.args.top c.args.rate (view c.args.delayed) c.prices-prices.ensures
-    (omega (arith, c.loop-i-test.false, c.loop-i.invariant.0, c.top-corners.ensures)) c.loop-i.invariant.1
+    (omega (arith, c.loop-i-test.false, c.top-corners.ensures)) c.loop-i.invariant

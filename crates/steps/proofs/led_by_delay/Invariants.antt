@@ -1,12 +1,8 @@
 -- `steps::led_by_delay` meets its contract. The loop has the corners below i to which the delay leads.
 -- Assumes nothing.
-use Prim.Native.Nat.{◌-◌, ◌≤◌}
 use Rattle.steps.specs.Leading.{IsLed}
 use Rattle.steps.proofs.Leads.{DelaysBelow}
 use Rattle.steps.proofs.led_by_delay.Given as goal
 
 abbrev pub invariant-loop-i : goal.invariant-loop-i
-invariant-loop-i l = (l.i ≤ l.corners) × IsLed l.stand l.words l.to (DelaysBelow l.prices l.top l.rate l.i) l.next
-
-abbrev pub decreases-loop-i : goal.decreases-loop-i
-decreases-loop-i l = l.corners - l.i
+invariant-loop-i l = IsLed l.stand l.words l.to (DelaysBelow l.prices l.top l.rate l.i) l.next

@@ -1,11 +1,7 @@
 -- `steps::led_by_move` meets its contract. The loop has the corners to which those below j lead.
 -- Assumes nothing.
-use Prim.Native.Nat.{◌-◌, ◌≤◌}
 use Rattle.steps.specs.Leading.{IsLed, MoveEdges}
 use Rattle.steps.proofs.led_by_move.Given as goal
 
 abbrev pub invariant-loop-j : goal.invariant-loop-j
-invariant-loop-j l = (l.j ≤ 4) × IsLed l.stand l.words l.to (MoveEdges l.map l.price l.j) l.next
-
-abbrev pub decreases-loop-j : goal.decreases-loop-j
-decreases-loop-j l = 4 - l.j
+invariant-loop-j l = IsLed l.stand l.words l.to (MoveEdges l.map l.price l.j) l.next

@@ -12,14 +12,14 @@ region_at-at-requires c =
 
 pub by_move-moved-requires : goal.by_move-moved-requires
 by_move-moved-requires c =
-    (standing c.requires c.region_at-at.result c.region_at-at.ensures, c.requires.setting.is-rules)
+    standing c.requires c.region_at-at.result c.region_at-at.ensures
 
 pub returns-then-is_some : goal.returns-then-is_some
 returns-then-is_some c = next-move c.requires.below c.by_move-moved.ensures (sym c.is_some.ensures ∙ c.if-is_some.true)
 
 pub by_delay-delayed-requires : goal.by_delay-delayed-requires
 by_delay-delayed-requires c =
-    (standing c.requires c.region_at-at.result c.region_at-at.ensures, c.requires.setting.is-rules)
+    standing c.requires c.region_at-at.result c.region_at-at.ensures
 
 pub returns-then-is_some-2 : goal.returns-then-is_some-2
 returns-then-is_some-2 c =
@@ -28,10 +28,9 @@ returns-then-is_some-2 c =
 
 pub by_linger-requires : goal.by_linger-requires
 by_linger-requires c =
-    (c.args.corners.now.space, standing c.requires c.region_at-at.result c.region_at-at.ensures)
+    standing c.requires c.region_at-at.result c.region_at-at.ensures
 
 pub returns : goal.returns
 returns c =
-    let w = standing c.requires c.region_at-at.result c.region_at-at.ensures in
     next-linger c.requires.below c.by_move-moved.ensures (sym c.is_some.ensures ∙ c.if-is_some.false) c.by_delay-delayed.ensures
-    (sym c.is_some-2.ensures ∙ c.if-is_some-2.false) (c.by_linger.ensures c.args.corners.now.space w)
+    (sym c.is_some-2.ensures ∙ c.if-is_some-2.false) c.by_linger.ensures

@@ -11,20 +11,20 @@ use Rattle.space.specs.Laws.Shares.{few-modes}
 use Rattle.space.proofs.MovesFrom.{named-ready, named-open, after-ready, after-open}
 use Rattle.states.specs.declared.States.{States}
 use Rattle.minutes.specs.declared.waits.Source.{Source}
-use Rattle.minutes.specs.Edges.{Waited, MovesReady}
+use Rattle.minutes.specs.Edges.{Setting, Waited, MovesReady}
 use Rattle.minutes.proofs.Offers.{hand-mode}
 use Rattle.minutes.proofs.MoveRelaxing.{TurnAt, turn-at, wait-again, turn-first, turn-all, turn-less, turn-next, move-sum, move-ready}
 use Rattle.minutes.proofs.edges.relax_moves.Goals.{After-first, In-Some, After-next_move-next-in-Some}
 use Rattle.minutes.proofs.edges.relax_moves.Goals as goal
 
 -- The mode in hand is there.
-mode-there : {t rs : List ℕ} {s : States} {x : Source} {ws : List ℕ} → MovesReady t rs s x ws → x.at.mode < length (automaton_of t).modes
-mode-there p = omega (arith, hand-mode p.setting p.goal p.waited.hand, p.waited.stands.mode-is)
+mode-there : {t rs : List ℕ} {s : States} {x : Source} {ws : List ℕ} → Setting t rs s → MovesReady t s x ws → x.at.mode < length (automaton_of t).modes
+mode-there z p = omega (arith, hand-mode z p.goal p.waited.hand, p.waited.stands.mode-is)
 
 begins :
     (c : After-first)
     → FirstFrom (automaton_of c.args.minutes.now.table.now.bytes) c.args.from.at.mode 0 (first_of c.args.minutes.now.rules.now c.args.from.at.mode)
-begins c = c.requires.setting.is-rules.first _ (mode-there c.requires)
+begins c = c.args.minutes.now.setting.is-rules.first _ (mode-there c.args.minutes.now.setting c.requires)
 
 -- Move e, and the node in hand after the moves before it.
 turn :
@@ -48,18 +48,18 @@ next :
     c.next_move-next-in-Some.result
 next c =
     let k = turn-at c.loop-next.invariant c.in-Some.is in
-    after-open c.requires.setting.is-rules (k.move.there k.some) c.after.ensures (k.move.source k.some) c.next_move-next-in-Some.ensures
+    after-open c.args.minutes.now.setting.is-rules (k.move.there k.some) c.after.ensures (k.move.source k.some) c.next_move-next-in-Some.ensures
 
 pub first-requires : goal.first-requires
-first-requires c = omega (arith, mode-there c.requires, few-modes _ c.requires.setting.is-table)
+first-requires c = omega (arith, mode-there c.args.minutes.now.setting c.requires, few-modes _ c.args.minutes.now.setting.is-table)
 
 pub next_move-next-requires : goal.next_move-next-requires
-next_move-next-requires c = named-ready c.requires.setting.is-rules (begins c) c.first.ensures
+next_move-next-requires c = named-ready c.args.minutes.now.setting.is-rules (begins c) c.first.ensures
 
 pub loop-next-init : goal.loop-next-init
 loop-next-init c =
-    let rules = c.requires.setting.is-rules in
-    turn-first c.requires.setting c.args.from c.requires.room _ c.halves-halves.ensures
+    let rules = c.args.minutes.now.setting.is-rules in
+    turn-first c.args.minutes.now.setting c.args.from c.requires.room _ c.halves-halves.ensures
     (named-open rules (begins (goal.at.loop-next-init c).After-first) c.first.ensures c.next_move-next.ensures)
 
 pub overflow_add-charge : goal.overflow_add-charge
@@ -67,19 +67,19 @@ overflow_add-charge c =
     let k = turn-at c.loop-next.invariant c.in-Some.is in
     omega (
       arith,
-      move-sum c.requires.setting c.args.from c.requires.room _ c.halves-halves.ensures _ k.some k.move
+      move-sum c.args.minutes.now.setting c.args.from c.requires.room _ c.halves-halves.ensures _ k.some k.move
           (held (goal.at.overflow_add-charge c).In-Some) c.requires.short c.price.result c.price.ensures,
     )
 
 pub relax-requires : goal.relax-requires
 relax-requires c =
     let k = turn-at c.loop-next.invariant c.in-Some.is in
-    move-ready c.requires.setting c.args.from c.requires.room _ c.halves-halves.ensures _ k.some k.move
+    move-ready c.args.minutes.now.setting c.args.from c.requires.room _ c.halves-halves.ensures _ k.some k.move
     (held (goal.at.relax-requires c).In-Some) c.requires.short c.price.result c.price.ensures c.lead-to.result c.lead-to.ensures
 
 pub next_move-next-requires-in-Some : goal.next_move-next-requires-in-Some
 next_move-next-requires-in-Some c =
-    after-ready c.requires.setting.is-rules (there (goal.at.next_move-next-requires-in-Some c).In-Some) c.after.ensures
+    after-ready c.args.minutes.now.setting.is-rules (there (goal.at.next_move-next-requires-in-Some c).In-Some) c.after.ensures
 
 pub loop-next-smaller : goal.loop-next-smaller
 loop-next-smaller c =
@@ -88,10 +88,10 @@ loop-next-smaller c =
 pub loop-next-preserved : goal.loop-next-preserved
 loop-next-preserved c =
     let k = turn-at c.loop-next.invariant c.in-Some.is in
-    turn-next c.requires.setting c.args.from c.requires.room _ c.halves-halves.ensures _ k.some k.move c.requires.short k.moves
+    turn-next c.args.minutes.now.setting c.args.from c.requires.room _ c.halves-halves.ensures _ k.some k.move c.requires.short k.moves
     c.price.result c.price.ensures c.lead-to.result c.lead-to.ensures c.relax.ensures
     (next (goal.at.loop-next-preserved c).After-next_move-next-in-Some)
 
 pub returns : goal.returns
 returns c =
-    turn-all c.requires.setting c.args.from c.requires.room _ c.halves-halves.ensures c.loop-next.invariant c.in_default.is
+    turn-all c.args.minutes.now.setting c.args.from c.requires.room _ c.halves-halves.ensures c.loop-next.invariant c.in_default.is

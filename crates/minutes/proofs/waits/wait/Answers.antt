@@ -4,4 +4,4 @@ use Rattle.minutes.proofs.Waiting.{wait-done}
 use Rattle.minutes.proofs.waits.wait.Goals as goal
 
 pub returns : goal.returns
-returns c = wait-done c.requires c.rate-rate.result c.rate-rate.ensures c.waited.result c.waited.ensures
+returns c = wait-done c.args.graph.now.setting c.requires c.rate-rate.result c.rate-rate.ensures c.waited.result c.waited.ensures

@@ -13,7 +13,7 @@ loop-label-init c = none-begins c.requires.few
 -- In a turn the label is one of a wait.
 few-labels : (c : In-loop-label) → c.loop-label.label < 1024
 few-labels c =
-    omega (arith, c.loop-label-test.true, ceiling-first c.requires.at-node, label-parts c.loop-label.label)
+    omega (arith, c.loop-label-test.true, ceiling-first c.args.minutes.now.setting, label-parts c.loop-label.label)
 
 pub tight_after-requires : goal.tight_after-requires
 tight_after-requires c =
@@ -21,7 +21,7 @@ tight_after-requires c =
     record {
       node = c.args.stand.node;
       at-node = n;
-      standing = node-standing n c.state_at-at.ensures _;
+      standing = node-standing c.args.minutes.now.setting _ c.state_at-at.ensures _;
       few = few-labels (goal.at.tight_after-requires c).In-loop-label;
     }
 
@@ -29,7 +29,7 @@ pub returns-in-Some : goal.returns-in-Some
 returns-in-Some c =
     let n = c.requires.at-node in
     next-found c.loop-label.invariant (few-labels (goal.at.returns-in-Some c).In-loop-label) _ (omega (arith, label-parts c.loop-label.label))
-    (rw c.in-Some.is at c.tight_after.ensures) n (node-standing n c.state_at-at.ensures _)
+    (rw c.in-Some.is at c.tight_after.ensures) n (node-standing c.args.minutes.now.setting _ c.state_at-at.ensures _)
 
 pub loop-label-smaller : goal.loop-label-smaller
 loop-label-smaller c = omega (arith, few-labels (goal.at.loop-label-smaller c).In-loop-label, label-parts c.loop-label.label)
@@ -41,5 +41,4 @@ loop-label-preserved c =
 
 pub returns : goal.returns
 returns c =
-    let n = c.requires.at-node in
-    next-none n c.state_at-at.ensures _ c.loop-label.invariant c.loop-label-test.false
+    next-none c.args.minutes.now.setting _ c.state_at-at.ensures c.requires.at-node _ c.loop-label.invariant c.loop-label-test.false

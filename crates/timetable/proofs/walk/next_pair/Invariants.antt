@@ -6,7 +6,7 @@ use Rattle.timetable.proofs.walk.next_pair.Given as goal
 
 abbrev pub invariant-loop-label : goal.invariant-loop-label
 invariant-loop-label l =
-    NoneBelow l.minutes.table.now.bytes l.minutes.rules.now l.minutes.states l.from l.words l.initial.label l.label
+    NoneBelow l.minutes.table.now.bytes l.minutes.states l.from l.words l.initial.label l.label
 
 abbrev pub decreases-loop-label : goal.decreases-loop-label
 decreases-loop-label l = 1024 - l.label

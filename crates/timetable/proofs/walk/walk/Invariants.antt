@@ -9,8 +9,8 @@ use Rattle.timetable.proofs.walk.walk.Given as goal
 
 abbrev pub invariant-loop-states : goal.invariant-loop-states
 invariant-loop-states l =
-    (w : WalkReady l.minutes.table.now.bytes l.minutes.rules.now l.minutes.states l.initial.words l.initial.route)
-    → Walking w l.words l.route l.stand
+    (w : WalkReady l.minutes.table.now.bytes l.initial.words l.initial.route)
+    → Walking l.minutes.states w l.words l.route l.stand
 
 abbrev pub decreases-loop-states : goal.decreases-loop-states
 decreases-loop-states l =

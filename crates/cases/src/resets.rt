@@ -33,16 +33,13 @@ fn three(numbers: &[usize; TOKENS], at: usize, n: usize) -> [u8; Region::MOST_TI
     requires { (at < 1000) × (1 ≤ n) × (n ≤ most_timers) }
     ensures { Padded n result }
 {
-    let a = (numbers[at] % 256) as u8;
-    let b = (numbers[at + 1] % 256) as u8;
-    let c = (numbers[at + 2] % 256) as u8;
-    if n < 2 {
-        return [a, 0, 0];
-    }
-    if n < 3 {
-        return [a, b, 0];
-    }
-    [a, b, c]
+    let mut three = [
+        (numbers[at] % 256) as u8,
+        (numbers[at + 1] % 256) as u8,
+        (numbers[at + 2] % 256) as u8,
+    ];
+    three[n..].fill(0);
+    three
 }
 
 // The prices c0 to c(top), and 0 behind them.
@@ -50,19 +47,14 @@ fn prices(bytes: &[u8], top: u8) -> [u32; Region::MOST_CORNERS]
     requires { top < most_corners }
     ensures { result ≡ pad most_corners (take (suc top) result) }
 {
-    let a = price(bytes, 0);
-    let b = price(bytes, 4);
-    let c = price(bytes, 8);
-    if top < 1 {
-        return [a, 0, 0, 0];
-    }
-    if top < 2 {
-        return [a, b, 0, 0];
-    }
-    if top < 3 {
-        return [a, b, c, 0];
-    }
-    [a, b, c, price(bytes, 12)]
+    let mut prices = [
+        price(bytes, 0),
+        price(bytes, 4),
+        price(bytes, 8),
+        price(bytes, 12),
+    ];
+    prices[usize::from(top) + 1..].fill(0);
+    prices
 }
 
 // A price from its four bytes; 0 where they are not there.

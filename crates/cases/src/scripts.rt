@@ -69,7 +69,7 @@ fn met(region: Region, letter: u8, byte: u8) -> bool
     if letter == b'w' {
         return region.within([byte; Region::MOST_TIMERS]);
     }
-    region.meets((letter % 3) as usize, byte)
+    region.meets(usize::from(letter % 3), byte)
 }
 
 fn verdict(rt: &impl Print, met: bool) {

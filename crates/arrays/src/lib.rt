@@ -56,7 +56,7 @@ pub fn raised_by(mut values: [u8; MOST_TIMERS], n: usize, by: u8) -> [u8; MOST_T
     values
 }
 
-// Each of the first n prices is greater by price.
+// Each of the first n prices is greater by price. The same as `raised_by` over other numbers: their sum and its bound would need a trait.
 pub fn charged(mut prices: [u32; MOST_CORNERS], n: usize, price: u32) -> [u32; MOST_CORNERS]
     requires { (n ≤ most_corners) × ((i : ℕ) → get_or prices i 0 + price < 2 ^ 32) }
     ensures { result ≡ map_to (λ c. c + price) n prices }

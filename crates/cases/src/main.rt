@@ -73,7 +73,7 @@ const TITLE: usize = 0x3d00_0000;
 const COMMENT: usize = 0x2300_0000;
 
 // Runs a call: the first token is its name, the others are its numbers, and behind the colon are the bytes of a table. A title is printed as it
-// stands.
+// stands. A name is a number as every token is, whatever stands in a script.
 fn called(rt: &impl Print, name: usize, line: &[u8], numbers: &[usize; TOKENS], bytes: &[u8]) {
     match name {
         PLAN => plans::plan(rt, numbers, bytes),

@@ -10,7 +10,7 @@ use crate::comparison::Comparison;
 // The windows of three timers: of each the lowest place at which its conditions hold, and the first above it at which they do not.
 pub const ROW: usize = 6;
 
-// No timer stands so far on.
+// No timer stands so far on. It is a byte of a row, as `row_of` has it, and compared as one: no option.
 const FREE: u8 = 255;
 
 // The windows of the six conditions of a mode or a move, where 0 is none.

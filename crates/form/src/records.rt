@@ -53,7 +53,7 @@ fn mode_form(table: &[u8; SIZE], from: usize, form: &mut [u8; FORM], at: usize)
     places(table, from + INVARIANT, form, at + MODE_PLACES);
 }
 
-// A move: its modes and its price, its conditions, and the byte of its resets with the 0 behind it.
+// A move: its modes and its price, its conditions, and the byte of its resets with the 0 behind it. What differs from a mode is all but the places.
 fn move_form(table: &[u8; SIZE], from: usize, form: &mut [u8; FORM], at: usize)
     requires { (from + 12 ≤ 904) × (at + 18 ≤ 1384) }
     ensures { Appends form.old at (move_widened (drop from table.now)) form.new (at + 18) }
@@ -84,7 +84,7 @@ fn mode_forms(table: &[u8; SIZE], form: &mut [u8; FORM])
     }
 }
 
-// The moves, likewise.
+// The moves, likewise. One loop for both would take what is done with a record, with a contract longer than both.
 fn move_forms(table: &[u8; SIZE], form: &mut [u8; FORM])
     ensures { Appends form.old 232 (flat (records_from move_widened 12 64 (drop 136 table.now))) form.new 1384 }
 {

@@ -3,7 +3,7 @@
 
 ghost use Rattle.near.specs.Near.{BestRoom, IsBest};
 
-// An unreached node has this in both of its words.
+// An unreached node has this in both of its words, which are memory that `searched` speaks of: no option.
 pub const INFINITY: u32 = 0xFFFF_FFFF;
 
 // A charge and a number of steps.

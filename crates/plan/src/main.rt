@@ -43,7 +43,8 @@ fn skip_rest(input: &mut impl Read) {
     }
 }
 
-// Reads until the buffer is full, the input ends or a read fails, and says how many bytes were put at the start of it.
+// Reads until the buffer is full, the input ends or a read fails, and says how many bytes were put at the start of it. The reads say how far it got,
+// and no range does.
 fn read_full(input: &mut impl Read, bytes: &mut [u8]) -> usize
     ensures { IsPrefixLen result bytes.new }
 {

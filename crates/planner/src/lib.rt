@@ -15,7 +15,7 @@ use form::FORM;
 use near::Cost;
 use table::refusals::Refusal;
 
-// The numbers that stand for what was asked for and for no route. A refusal stands for itself: 1 to 12.
+// The numbers that C knows what was asked for and no route by. A refusal is known by its own: 1 to 12.
 const OK: u8 = 0;
 
 const NO_ROUTE: u8 = 255;

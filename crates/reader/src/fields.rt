@@ -65,7 +65,7 @@ pub fn optional(
     }
 }
 
-// A byte of a rate or price where its bit stands; otherwise no byte, and 0.
+// A byte of a rate or price where its bit stands; otherwise no byte, and 0. No refusal and no range go with it, so that it is no case of `optional`.
 pub fn amount_byte(bytes: &[u8], from: usize, stands: bool) -> Result<Field, Refusal>
     ensures { GivesField (if_stands stands any_byte) bytes.now from result }
 {

@@ -23,7 +23,7 @@ const AFTER: usize = 496;
 
 pub const RULES: usize = 560;
 
-// The byte that names no move.
+// The byte that names no move in memory, as `IsRules` has it.
 const NONE: u8 = 64;
 
 // Makes the rules of a table.

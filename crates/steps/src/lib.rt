@@ -33,7 +33,7 @@ pub struct Next {
     pub set: u32,
 }
 
-// The bytes of delay and linger.
+// The bytes of delay and linger. They stay bytes, as in a route, where steps are compared by them.
 const DELAY: usize = 64;
 
 const LINGER: usize = 65;

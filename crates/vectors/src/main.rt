@@ -15,7 +15,7 @@ fn main(rt: HostRuntime) -> io::Result<()> {
     each(&rt, &bytes)
 }
 
-// The tables one after another, as long as there is a whole one.
+// The tables one after another, as long as there is a whole one: of other lengths each, so that no `chunks` has them.
 fn each(rt: &impl Print, bytes: &[u8]) -> io::Result<()> {
     let mut rest = bytes;
     while 2 <= rest.len() {

@@ -126,7 +126,7 @@ fn mode_records(form: &[u8; FORM], timers: u8, modes: u8, pen: &mut Pen) -> Resu
     Ok(())
 }
 
-// The move records, likewise.
+// The move records, likewise. One loop for both would take what is done with a record, with a contract longer than both.
 fn move_records(
     form: &[u8; FORM],
     timers: u8,

@@ -1,6 +1,6 @@
 -- What a search answers, case by case, and what it changes then.
 -- Assumes nothing.
-use Rattle.std.specs.Prelude.{◌≡◌, refl, Option, Some, None, ok_or, Bool, true, false, cond, List, ◌++◌, ℕ, ◌*◌, ◌≤◌, ◌<◌, leb, length, drop, replicate}
+use Rattle.std.specs.Prelude.{◌≡◌, refl, Some, None, Bool, true, false, cond, List, ◌++◌, ℕ, ◌*◌, ◌≤◌, ◌<◌, leb, length, drop, replicate}
 use Rattle.std.proofs.Common.{sym, ap, ◌∙◌, arith, leb-true, le-leb}
 use Rattle.std.proofs.lemmas.Bool.{lt-leb}
 use Rattle.semantics.specs.Distinct.{distinct}
@@ -9,9 +9,7 @@ use Rattle.semantics.specs.NodeCount.{node_count}
 use Rattle.semantics.specs.Graph.Near.{near_words}
 use Rattle.semantics.specs.Graph.CornerGraph.{start_node, corner_graph}
 use Rattle.regions.specs.Nodes.{most_nodes, bounded}
-use Rattle.table.specs.declared.refusals.Refusal.TheVariants.{TooManyNodes}
-use Rattle.search.specs.Outcome.{Searched, told}
-use Rattle.search.specs.Outcome.{Nodes, Refused}
+use Rattle.search.specs.Outcome.{Searched, Nodes, Refused}
 use Rattle.search.specs.Outcome.{nodes_of, answered, unless_refused, searched, cleared}
 
 -- E, or 8: from the count of the nodes.
@@ -29,11 +27,6 @@ module _ (a : Automaton) where
       go : (b : Bool) → cond b (Some (node_count a)) None ≡ Some n → Nodes n ≡ cond b (Nodes (node_count a)) (Refused 8)
       go true h = let e : n ≡ node_count a = cc in ap Nodes e
       go false h = distinct cc
-
-  -- By the count, or its refusal where there is none.
-  pub nodes-counted-or : {count : Option ℕ} → count ≡ bounded (node_count a) → told (ok_or count TooManyNodes) ≡ nodes_of a
-  nodes-counted-or {count = None} e = nodes-many (sym e)
-  nodes-counted-or {count = Some n} e = nodes-few n (sym e)
 
   -- The nodes are n, and few enough.
   pub record Counts (n : ℕ) : Type 0 where

@@ -47,7 +47,7 @@ fn relax_moves(words: &mut [u32], minutes: &MinuteGraph, from: Source)
     );
     while let Some(e) = next {
         let to = states::lead(states, minutes.table, values, e);
-        let charge = u32::from(minutes.table.price(e)) + from.charge;
+        let charge = minutes.table.price(e) as u32 + from.charge;
         queue::relax(words, states.count, to, charge, from.pairs);
         next = moves::next_move(minutes.rules, halves, rules::after(minutes.rules, e));
     }

@@ -19,13 +19,13 @@ pub fn wait(graph: &MinuteGraph, from: Source, minutes: u8) -> Source
     ensures { WaitDone graph.now.table.now.bytes from minutes result }
 {
     let at = from.at;
-    let rate = u32::from(graph.table.rate(at.mode));
+    let rate = graph.table.rate(at.mode) as u32;
     Source {
         at: State {
             mode: at.mode,
             values: states::waited(at.values, graph.states.timers, minutes),
         },
-        charge: u32::from(minutes) * rate + from.charge,
+        charge: minutes as u32 * rate + from.charge,
         pairs: from.pairs,
     }
 }

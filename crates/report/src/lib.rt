@@ -86,7 +86,7 @@ fn put_refusal(n: u8, out: &mut [u8]) -> usize
     requires { length (Lines·lines (Refused n) []) ≤ length out.old }
     ensures { Put (Lines·lines (Refused n) []) 0 out.old result out.new }
 {
-    let at = put_field(b"refused ", u64::from(n), 0, out);
+    let at = put_field(b"refused ", n as u64, 0, out);
     put_text(b"\n", at, out)
 }
 
@@ -95,7 +95,7 @@ fn put_route(charge: u32, route: &[u8], steps: usize, out: &mut [u8]) -> usize
     requires { length (Lines·lines (Route charge steps) route.now) ≤ length out.old }
     ensures { Put (Lines·lines (Route charge steps) route.now) 0 out.old result out.new }
 {
-    let at = put_field(b"charge ", u64::from(charge), 0, out);
+    let at = put_field(b"charge ", charge as u64, 0, out);
     let at = put_text(b"\nroute", at, out);
     let at = put_steps(route, steps, at, out);
     put_text(b"\n", at, out)
@@ -108,7 +108,7 @@ fn put_steps(route: &[u8], n: usize, at: usize, out: &mut [u8]) -> usize
 {
     let mut next = at;
     for &byte in &route[..n.min(route.len())] {
-        next = put_field(b" ", u64::from(byte), next, out);
+        next = put_field(b" ", byte as u64, next, out);
     }
     next
 }

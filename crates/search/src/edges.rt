@@ -74,7 +74,7 @@ fn relax_waits(words: &mut [u32], corners: &CornerGraph, from: Source)
 {
     let space = corners.space;
     let at = from.at;
-    let rate = u32::from(corners.table.rate(at.mode));
+    let rate = corners.table.rate(at.mode) as u32;
     let delayed = at.region.delay(0);
     // Where r0 is empty a delay takes a corner away.
     let empty = delayed.top() < at.region.top();
@@ -116,7 +116,7 @@ fn image(images: &mut [u32; 8], space: Space, at: NodeRegion, resets: u8) -> usi
     requires { ImageReady space at resets × Images (NodeImage space at) images.old }
     ensures { ImageDone (NodeImage space at) resets images.new result }
 {
-    let k = usize::from(resets % 8);
+    let k = (resets % 8) as usize;
     if images[k] == moves::NO_IMAGE {
         images[k] = image_of(space, at, resets) as u32;
     }
@@ -138,7 +138,7 @@ fn relax_moves(words: &mut [u32], corners: &CornerGraph, from: Source)
         let target = corners.table.target(e) as u32;
         let resets = corners.table.resets(e);
         let to = image(&mut images, corners.space, at, resets) + (target * block) as usize;
-        let charge = u32::from(corners.table.price(e)) + from.charge;
+        let charge = corners.table.price(e) as u32 + from.charge;
         queue::relax(words, corners.space.nodes, to, charge, from.steps);
         next = moves::next_move(corners.rules, halves, rules::after(corners.rules, e));
     }

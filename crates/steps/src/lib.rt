@@ -179,7 +179,7 @@ fn image(images: &mut [u32; 8], space: Space, at: NodeRegion, resets: u8) -> u32
     requires { ImageReady space at resets × Images (IsImage space at) images.old }
     ensures { ImageDone (IsImage space at) resets images.new result }
 {
-    let k = usize::from(resets % 8);
+    let k = (resets % 8) as usize;
     if images[k] == moves::NO_IMAGE {
         images[k] = image_of(space, at, resets);
     }
@@ -201,7 +201,7 @@ fn along_move(
     // The unit's core multiplies in 32 bits.
     let block = corners.space.block as u32;
     let to = (image % 65536 + target * block) as usize;
-    let price = u32::from(corners.table.price(e));
+    let price = corners.table.price(e) as u32;
     found(e, to, led_by_move(words, stand, image / 65536, to, price))
 }
 
@@ -240,7 +240,7 @@ fn by_delay(words: &[u32], corners: &CornerGraph, at: NodeRegion, stand: Stand) 
         return None;
     }
     let to = nodes::node_of(at.mode, delayed, 0, corners.space.ceilings);
-    let rate = u32::from(corners.table.rate(at.mode));
+    let rate = corners.table.rate(at.mode) as u32;
     found(
         DELAY,
         to,
@@ -261,7 +261,7 @@ fn by_linger(words: &[u32], corners: &CornerGraph, at: NodeRegion, stand: Stand)
     if last <= delayed.top() {
         return None;
     }
-    let rate = u32::from(corners.table.rate(at.mode));
+    let rate = corners.table.rate(at.mode) as u32;
     found(
         LINGER,
         at.first,

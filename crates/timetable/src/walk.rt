@@ -52,7 +52,7 @@ fn tight_move(words: &[u32], minutes: &MinuteGraph, from: Source, first: usize) 
     let mut next = steps::move_from(minutes.rules, halves, from.at.mode, first);
     while let Some(e) = next {
         let node = states::lead(minutes.states, minutes.table, values, e);
-        let charge = u32::from(minutes.table.price(e)) + from.charge;
+        let charge = minutes.table.price(e) as u32 + from.charge;
         if reached_at(words, node, charge, from.pairs) {
             return Some(Step { made: e, node });
         }
@@ -80,7 +80,7 @@ fn next_pair(words: &[u32], minutes: &MinuteGraph, stand: Stand) -> Option<Next>
 {
     let states = minutes.states;
     let at = states::state_at(states, stand.node);
-    let longest = u32::from(states.ceilings[0] - at.values[0]);
+    let longest = (states.ceilings[0] - at.values[0]) as u32;
     let from = Source {
         at,
         charge: words[2 * stand.node],
@@ -127,7 +127,7 @@ fn backtrack(words: &mut [u32], route: &[u8], count: usize, stand: Stand) -> Sta
     Stand {
         node: words[2 * count + depth] as usize,
         depth,
-        label: MINUTE * u32::from(route[2 * depth]) + u32::from(route[2 * depth + 1]) + 1,
+        label: MINUTE * route[2 * depth] as u32 + route[2 * depth + 1] as u32 + 1,
     }
 }
 

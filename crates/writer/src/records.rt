@@ -31,7 +31,7 @@ fn ceilings(form: &[u8; FORM], timers: u8, pen: &mut Pen) -> Result<(), Refusal>
     requires { (timers ≤ 3) × (pen.old.at + 3 ≤ 919) }
     ensures { Puts (1 * timers) (each ceiling_byte (records_from (λ u. get_or u 0 0) 1 timers (drop 4 form.now))) pen.old result pen.new }
 {
-    for &ceiling in &form[CEILINGS..CEILINGS + usize::from(timers)] {
+    for &ceiling in &form[CEILINGS..CEILINGS + timers as usize] {
         pen.counted(ceiling, 1, 15)?;
     }
     Ok(())

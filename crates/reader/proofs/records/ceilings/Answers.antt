@@ -29,7 +29,7 @@ returns c =
     let a = c.args in
     let f = c.loop-at.invariant in
     let all : c.loop-at.at - 4 ≡ a.timers = omega (arith, f.few) in
-    let behind : c.loop-at.at ≡ 4 + a.timers = omega (arith, f.few) in
+    let behind : c.loop-at.at ≡ 4 + c.from-behind.result = omega (arith, f.few, c.from-behind.ensures) in
     record {
       value = f.taken;
       taken = rw behind at (gathered-all ceiling 0 a.timers a.bytes.now 4 f (omega arith));

@@ -61,13 +61,13 @@ pub record TurnAt (t rs : List ℕ) (s : States) (x : Source) (hs : List ℕ) (e
 pub turn-at :
     {t rs : List ℕ} {s : States} {x : Source} {hs : List ℕ} {next : Option ℕ} {ws ws' : List ℕ} → Turn t rs s x hs next ws ws' → {e : ℕ}
     → next ≡ Some e → TurnAt t rs s x hs e ws ws'
-turn-at turn q = let o = some-move turn.named q in record { some = o.1; move = rw o.0 at turn.move; moves = rw o.0 at turn.moves }
+turn-at turn q = let o = some-move turn.named turn.move.few q in record { some = o.1; move = rw o.0 at turn.move; moves = rw o.0 at turn.moves }
 
 -- A later one comes after it.
 pub turn-less :
     {t rs : List ℕ} {s : States} {x : Source} {hs : List ℕ} {next later : Option ℕ} {ws ws' : List ℕ} → Turn t rs s x hs next ws ws' → {e : ℕ}
     → next ≡ Some e → OpenNamed t rs hs x.at.mode (e + 1) later → left later < left next
-turn-less turn q o = rw q (left-less (some-move turn.named q).1 o.1 (omega (arith, o.2.low)))
+turn-less turn q o = rw q (left-less (some-move turn.named turn.move.few q).1 o.1 (omega (arith, o.2.low)))
 
 module _ {t rs : List ℕ} {s : States} (z : Setting t rs s) (x : Source) (room : Room x.at.values) (hs : List ℕ)
     (twice : hs ≡ map (λ v. 2 * v) x.at.values) where

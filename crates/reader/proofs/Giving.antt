@@ -1,6 +1,6 @@
 -- How what a function gives follows from what the functions that it calls give.
 -- Assumes nothing.
-use Rattle.std.specs.Prelude.{Result, Ok, Err, MatchResult, IsErrAnd}
+use Rattle.std.specs.Prelude.{Result, Ok, Err, MatchResult, IfOk, IsErrAnd}
 use Prim.Native.Nat.{ℕ, ◌/◌, ◌%◌, ◌^◌, ◌≤◌, ◌<◌}
 use native.Mathlib.Nat.{div-one}
 use native.Mathlib.Omega.{arith}
@@ -52,6 +52,11 @@ module _ {A B C : Type 0} (p : Parser A) (q : A → Parser B) (f : A → B → P
 pub passed-up : {B E : Type 0} (r : Result B E) (e : E) (P : B → Type 0) (Q : E → Type 0) → IsErrAnd r (λ y. y ≡ e) → Q e → MatchResult r P Q
 passed-up (Ok b) e P Q is q = absurd is
 passed-up (Err y) e P Q is q = subst Q (sym is) q
+
+-- Of a result that is a refusal nothing is said where it would be none.
+pub refused-only : {B E : Type 0} (P : B → Type 0) (r : Result B E) (e : E) → IsErrAnd r (λ y. y ≡ e) → IfOk r P
+refused-only P (Ok b) e is = absurd is
+refused-only P (Err y) e is = tt
 
 -- What was taken, where its value is known.
 pub known-by : {A : Type 0} {bytes : List ℕ} {next : ℕ} {v : A} {P : A → Type 0} {o : Outcome A} → ((a : A) → P a → v ≡ a) → Took bytes next P o → o ≡ took v (drop next bytes)

@@ -1,6 +1,6 @@
 -- The contract of each private function that reads from a place on: what it gives, or writes into the table, is what comes of a parser there.
 -- Assumes nothing.
-use Rattle.std.specs.Prelude.{ℕ, ◌+◌, ◌-◌, ◌%◌, ◌≤◌, ◌<◌, ◌≡◌, List, [], ◌∷◌, ◌++◌, length, drop, set, Result, MatchResult}
+use Rattle.std.specs.Prelude.{ℕ, ◌+◌, ◌-◌, ◌%◌, ◌≤◌, ◌<◌, ◌≡◌, List, [], ◌∷◌, ◌++◌, length, drop, set, Result, MatchResult, IfOk}
 use Rattle.std.proofs.lemmas.List.Edits.{sets}
 use Rattle.reader.specs.Parser.{Parser, done, ◌>>=◌, Outcome, refused, took, run}
 use Rattle.table.specs.declared.refusals.Refusal.{Refusal}
@@ -25,6 +25,11 @@ Gives bytes next P o r = MatchResult r (λ b. Took bytes (next b) (P b) o) (λ e
 -- The field is what the parser gives from the place `from` on.
 abbrev pub GivesField : Parser ℕ → List ℕ → ℕ → Result Field Refusal → Type 0
 GivesField p bytes from r = Gives bytes (λ f. f.next) (λ f a. f.value ≡ a) (run p (drop from bytes)) r
+
+-- Besides, where it is not refused, the byte is in its range, and one byte was taken.
+pub record GivesWithin (refusal least most : ℕ) (bytes : List ℕ) (from : ℕ) (r : Result Field Refusal) : Type 0 where
+  pub gives : GivesField (within refusal least most) bytes from r
+  pub range : IfOk r (λ f. (least ≤ f.value) × (f.value ≤ most) × (f.next ≡ from + 1))
 
 -- The bytes xs, so many, were written into t from `at` on.
 pub record Wrote (wide : ℕ) (t : List ℕ) (at : ℕ) (t' xs : List ℕ) : Type 0 where

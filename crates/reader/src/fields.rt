@@ -1,8 +1,8 @@
 // Single fields of a table: each function reads from a place on with one parser of the definitions.
-ghost use Rattle.std.specs.Prelude.{◌≤◌};
+ghost use Rattle.std.specs.Prelude.{◌≡◌, ◌+◌, ◌≤◌, IfOk};
 ghost use Rattle.table.specs.Refusals.{number};
 ghost use Rattle.reader.specs.Format.{any_byte, within, if_stands, bit_map, reset_byte};
-ghost use Rattle.reader.specs.Step.{GivesField};
+ghost use Rattle.reader.specs.Step.{GivesField, GivesWithin};
 
 use table::names;
 use table::refusals::Refusal;
@@ -16,7 +16,8 @@ pub struct Field {
 
 // Any byte.
 fn any_byte(bytes: &[u8], from: usize) -> Result<Field, Refusal>
-    ensures { GivesField any_byte bytes.now from result }
+    ensures gives { GivesField any_byte bytes.now from result }
+    ensures one { IfOk result (λ f. f.next ≡ from + 1) }
 {
     match bytes.get(from) {
         Some(&value) => Ok(Field {
@@ -35,7 +36,7 @@ pub fn byte_within(
     least: u8,
     most: u8,
 ) -> Result<Field, Refusal>
-    ensures { GivesField (within (number refusal) least most) bytes.now from result }
+    ensures { GivesWithin (number refusal) least most bytes.now from result }
 {
     let byte = any_byte(bytes, from)?;
     if byte.value < least || most < byte.value {

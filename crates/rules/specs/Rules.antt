@@ -1,7 +1,7 @@
 -- What a search looks at instead of a table's conditions, 560 bytes: for each mode and move the window of each timer in half minutes, and the moves
 -- of each mode one after another.
 -- Assumes nothing.
-use Rattle.std.specs.Prelude.{◌≡◌, ◌≢◌, cond, List, ℕ, ◌+◌, ◌*◌, ◌≤◌, ◌<◌, ltb, Option, Some, None, length, get_or}
+use Rattle.std.specs.Prelude.{◌≡◌, ◌≢◌, cond, List, ℕ, ◌+◌, ◌*◌, ◌≤◌, ◌<◌, eqb, Option, Some, None, length, get_or}
 use Rattle.semantics.specs.Condition.{Condition}
 use Rattle.semantics.specs.Automaton.{Automaton, mode_at, move_at}
 use Rattle.semantics.specs.Run.{among}
@@ -36,7 +36,7 @@ none = 64
 
 -- The move that a byte behind the rows names.
 abbrev pub as_move : ℕ → Option ℕ
-as_move r = cond (ltb r none) (Some r) None
+as_move r = cond (eqb r none) None (Some r)
 
 -- Move r is the first from e on that leaves mode m, or none does and r is 64.
 pub record FirstFrom (a : Automaton) (m e r : ℕ) : Type 0 where

@@ -103,9 +103,9 @@ fn window(row: usize, timer: usize) -> usize
 fn as_move(byte: u8) -> Option<usize>
     ensures { result ≡ as_move byte }
 {
-    if byte < NONE {
-        Some(usize::from(byte))
-    } else {
+    if byte == NONE {
         None
+    } else {
+        Some(usize::from(byte))
     }
 }

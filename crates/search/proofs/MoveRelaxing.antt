@@ -50,7 +50,7 @@ pub record TurnAt (t rs : List ℕ) (s : Space) (x : Source) (hs : List ℕ) (e 
 pub turn-at :
     {t rs : List ℕ} {s : Space} {x : Source} {hs : List ℕ} {next : Option ℕ} {found ws ws' : List ℕ} → Turn t rs s x hs next found ws ws'
     → {e : ℕ} → next ≡ Some e → TurnAt t rs s x hs e ws ws'
-turn-at turn q = let o = some-move turn.named q in record { some = o.1; move = rw o.0 at turn.move; moves = rw o.0 at turn.moves }
+turn-at turn q = let o = some-move turn.named turn.move.few q in record { some = o.1; move = rw o.0 at turn.move; moves = rw o.0 at turn.moves }
 
 module _ {t rs : List ℕ} {s : Space} (set : Setting t rs s) (x : Source) (k : IsCorner t x.at) (hs : List ℕ)
     (stand : hs ≡ halves_of (view x.at.region)) where

@@ -6,6 +6,7 @@ pub mod MovesFrom
 -- The edges of waits.
 pub mod WaitEdges
 -- The edges of moves.
+pub mod TimerTests
 pub mod OpenMoves
 pub mod Imaging
 pub mod MoveEdges

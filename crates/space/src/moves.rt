@@ -18,11 +18,14 @@ pub fn next_move(
     ensures { NextDone rules.now halves from result }
 {
     let mut next = from;
-    while let Some(e) = next {
-        if rules::all_inside(rules, rules::GUARDS + e, halves) {
-            return next;
-        }
+    'moves: while let Some(e) = next {
         next = rules::after(rules, e);
+        for timer in 0..Region::MOST_TIMERS {
+            if !rules::inside(rules, rules::GUARDS + e, timer, halves[timer]) {
+                continue 'moves;
+            }
+        }
+        return Some(e);
     }
     None
 }

@@ -128,7 +128,7 @@ pub record TurnAt (t rs : List ℕ) (s : Space) (x : NodeRegion) (z : Stand) (ws
 pub turn-at :
     {t rs : List ℕ} {s : Space} {x : NodeRegion} {z : Stand} {ws hs : List ℕ} {next : Option ℕ} {images : List ℕ}
     → Turn t rs s x z ws hs next images → {e : ℕ} → next ≡ Some e → TurnAt t rs s x z ws hs e
-turn-at turn q = let o = some-move turn.named q in record { some = o.1; move = rw o.0 at turn.move; silent = rw o.0 at turn.silent }
+turn-at turn q = let o = some-move turn.named turn.move.few q in record { some = o.1; move = rw o.0 at turn.move; silent = rw o.0 at turn.silent }
 
 -- The next after it.
 pub turn-next :

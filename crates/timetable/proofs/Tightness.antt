@@ -149,7 +149,7 @@ pub record TurnAt (t rs : List ℕ) (s : States) (x : Source) (first : ℕ) (ws 
 pub turn-at :
     {t rs : List ℕ} {s : States} {x : Source} {first : ℕ} {ws hs : List ℕ} {next : Option ℕ} → Turn t rs s x first ws hs next → {e : ℕ}
     → next ≡ Some e → TurnAt t rs s x first ws hs e
-turn-at turn q = let o = some-move turn.named q in record { some = o.1; move = rw o.0 at turn.move; none-to = rw o.0 at turn.none-to }
+turn-at turn q = let o = some-move turn.named turn.move.few q in record { some = o.1; move = rw o.0 at turn.move; none-to = rw o.0 at turn.none-to }
 
 -- The next after it.
 pub turn-next :

@@ -1,6 +1,6 @@
 -- How what a function writes follows from what the functions that it calls write.
 -- Assumes nothing.
-use Rattle.std.specs.Prelude.{ℕ, ◌+◌, ◌*◌, ◌^◌, ◌≤◌, ◌<◌, ◌≡◌, refl, Bool, true, false, cond, ◌&&◌, ◌/◌, ◌%◌, List, [], ◌∷◌, ◌++◌, eqb, ltb, length, take, drop, set, Result, Ok, Err, IsErrAnd}
+use Rattle.std.specs.Prelude.{ℕ, ◌+◌, ◌*◌, ◌^◌, ◌≤◌, ◌<◌, ◌≡◌, refl, Bool, true, false, cond, ◌&&◌, ◌/◌, ◌%◌, List, [], ◌∷◌, ◌++◌, eqb, ltb, length, take, drop, set, Result, Ok, Err, OnOk, IsErrAnd}
 use Rattle.std.proofs.Common.{add-zero, add-one, take-append-drop, arith, sym, ap, ◌∙◌, append_assoc, append-nil, eq-eqb, ne_eqb, eqb-true, lt-ltb, le-ltb, length-append, pow_mono, pow_pos, length-take-le, take_at}
 use Rattle.std.proofs.lemmas.List.{set_split}
 use Rattle.std.proofs.lemmas.Result.{err_from_is_err_and}
@@ -138,10 +138,15 @@ module _ {pen pen' pen'' : Pen} {p : Part} {e : Refusal} {s : Result (Unit {0}) 
 pub puts-long : {most n : ℕ} {r : Result (Unit {0}) Refusal} {p : Part} {pen pen' : Pen} → Puts most p pen r pen' → length pen.bytes ≡ n → length pen'.bytes ≡ n
 puts-long {pen = pen} {pen' = pen'} v e = pen'.long ∙ sym pen.long ∙ e
 
--- At most so many bytes are at most more.
-pub puts-wide : {a b : ℕ} {r : Result (Unit {0}) Refusal} {p : Part} {pen pen' : Pen} → Puts a p pen r pen' → a ≤ b → Puts b p pen r pen'
+-- At most so many bytes are at most more; of a refusal nothing is asked.
+pub puts-wide : {a b : ℕ} {r : Result (Unit {0}) Refusal} {p : Part} {pen pen' : Pen} → Puts a p pen r pen' → OnOk r (a ≤ b) → Puts b p pen r pen'
 puts-wide {r = Ok u} v h = record { fault = v.fault; few = omega (arith, v.few); put = v.put }
 puts-wide {r = Err e} v h = record { fault = v.fault; few = tt; put = tt }
+
+-- What holds whatever comes holds of what was put.
+pub whatever : {P : Type 0} (r : Result (Unit {0}) Refusal) → P → OnOk r P
+whatever (Ok u) h = h
+whatever (Err e) h = tt
 
 -- The reset byte: refused, or put.
 pub limit-small : {n limit : ℕ} → n ≤ 3 → limit ≡ 2 ^ n → limit ≤ 8

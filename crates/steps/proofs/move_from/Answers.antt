@@ -22,7 +22,7 @@ from_there c t f same past =
 pub returns : goal.returns
 returns c t f = elim c.match-next.branch [
   | in-Some+then-byte-e w ↦
-      let at = some-move (c.loop-next.invariant t f).1 w.in-Some.is in
-      from_there c t f (w.next-is ∙ sym w.in-Some.is) (omega (arith, w.if-byte-e.true, at.0))
+      let at = c.loop-next.invariant t f in
+      from_there c t f (w.next-is ∙ sym w.in-Some.is) (omega (arith, w.if-byte-e.true, (some-move at.1 at.2.few w.in-Some.is).0))
   | in_default w ↦ from_there c t f w.next-is (omega (arith, no-move (c.loop-next.invariant t f).1 w.in_default.is, f.3))
 ]

@@ -4,4 +4,4 @@ use Rattle.reader.proofs.Copying.{copied}
 use Rattle.reader.proofs.records.copied.Goals as goal
 
 pub returns : goal.returns
-returns c = copied _ _ (known c.in_ok-byte.ensures)
+returns c = copied _ _ (known c.in_ok-byte.ensures.gives)

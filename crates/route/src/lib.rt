@@ -14,8 +14,8 @@ mod walk;
 use near::Cost;
 use rules::RULES;
 use space::graph::CornerGraph;
-use table::Table;
 use table::refusals::Refusal;
+use table::{SIZE, Table};
 
 // How many words and route bytes are enough for planning.
 #[derive(Clone, Copy, Debug, PartialEq, Eq)]
@@ -31,8 +31,9 @@ pub fn plan(bytes: &[u8], words: &mut [u32], route: &mut [u8]) -> Result<Option<
         ≡ planned bytes.now words.old route.old }
     ensures demand { KeepsDemand bytes.now (length words.old) route.new (told result) }
 {
-    let table = reader::table_of(bytes)?;
-    plan_table(words, route, &table)
+    let mut held = [0; SIZE];
+    reader::read(bytes, &mut held)?;
+    plan_table(words, route, &Table { bytes: held })
 }
 
 // Plans a table that was read.
@@ -53,8 +54,9 @@ pub fn lend(bytes: &[u8]) -> Result<Memory, Refusal>
     ensures needs { told_needs result ≡ needed bytes.now }
     ensures promise { Enough bytes.now (told_needs result) }
 {
-    let table = reader::table_of(bytes)?;
-    memory_of(&table)
+    let mut held = [0; SIZE];
+    reader::read(bytes, &mut held)?;
+    memory_of(&Table { bytes: held })
 }
 
 // How much to lend for a table that was read.

@@ -15,8 +15,8 @@ use minutes::graph::MinuteGraph;
 use near::Cost;
 use rules::RULES;
 use search::graph;
-use table::Table;
 use table::refusals::Refusal;
+use table::{SIZE, Table};
 
 // Gives the timetable of the table that the bytes are, with the memory lent for the search and for the pairs: its charge and its number of pairs, which are
 // steps here, if there is one.
@@ -25,8 +25,9 @@ pub fn timetable(bytes: &[u8], words: &mut [u32], route: &mut [u8]) -> Result<Op
         ≡ timetabled bytes.now words.old route.old }
     ensures promise { KeepsTimetable bytes.now words.old route.new (told_timetable result) }
 {
-    let table = reader::table_of(bytes)?;
-    timetable_of(words, route, &table)
+    let mut held = [0; SIZE];
+    reader::read(bytes, &mut held)?;
+    timetable_of(words, route, &Table { bytes: held })
 }
 
 // That of a table that was read. 12 comes "directly after 7".

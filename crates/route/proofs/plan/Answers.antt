@@ -1,24 +1,31 @@
 -- `route::plan` meets its contract. Assumes nothing.
-use mathlib.Core.Path.{◌∙◌}
+use native.Mathlib.Omega.{arith}
+use mathlib.Core.Path.{refl, ◌∙◌}
 use Rattle.std.proofs.lemmas.Result.{err_from_is_err_and}
 use Rattle.table.specs.Refusals.{number}
+use Rattle.reader.specs.Theorems.Accepted.{accepted-table, accepted-read, rejected-read}
 use Rattle.route.specs.Answers.{told}
 use Rattle.route.proofs.Planning.{outcome-keeps, planned-refused, planned-accepted}
 use Rattle.route.proofs.plan.Goals as goal
 
-pub returns-in_err-table : goal.returns-in_err-table
-returns-in_err-table c =
+pub returns-in_err-read : goal.returns-in_err-read
+returns-in_err-read c =
     let bytes = c.args.bytes.now in
     let ws = c.args.words.now in
     let rs = c.args.route.now in
     let passed = err_from_is_err_and c.from_residual.result c.from_residual.ensures.1 in
-    let e = planned-refused bytes ws rs (number c.in_err-table.field-0.0) c.in_err-table.ensures in
+    let e = planned-refused bytes ws rs (number c.in_err-read.field-0.0) (rejected-read bytes _ _ c.in_err-read.ensures _ refl) in
     rw (passed.1, passed.2) (record { outcome = e; demand = outcome-keeps bytes ws ws rs rs _ e })
+
+pub invariant_of-plan_table : goal.invariant_of-plan_table
+invariant_of-plan_table c =
+    record { is_table = accepted-table c.args.bytes.now c.read.new.table _ (λ i. omega (arith, c.type_inv.bytes i)) c.in_ok-read.ensures refl }
 
 pub returns : goal.returns
 returns c =
     let bytes = c.args.bytes.now in
     let ws = c.args.words.now in
     let rs = c.args.route.now in
-    let e = c.plan_table.ensures ∙ planned-accepted bytes ws rs c.in_ok-table.table.bytes c.in_ok-table.ensures in
+    let read = accepted-read bytes c.read.new.table _ (λ i. omega (arith, c.type_inv.bytes i)) c.in_ok-read.ensures refl in
+    let e = c.plan_table.ensures ∙ planned-accepted bytes ws rs c.read.new.table read in
     record { outcome = e; demand = outcome-keeps bytes ws c.plan_table.new.words rs c.plan_table.new.route (told c.plan_table.result) e }

@@ -2,13 +2,12 @@
 // with one method for each kind of byte, which puts it behind those that are there.
 #![tactic(auto)]
 
-ghost use Rattle.std.specs.Prelude.{◌≡◌, [], ◌∷◌, ◌++◌, ◌≤◌, ◌<◌, true, Ok};
-ghost use Rattle.table.specs.Refusals.{number};
+ghost use Rattle.std.specs.Prelude.{ℕ, ◌≡◌, [], ◌∷◌, ◌++◌, ◌≤◌, ◌<◌, true, Ok};
 ghost use Rattle.reader.specs.Format.{between};
 ghost use Rattle.parts.specs.Part.{checked, unless_zero};
 ghost use Rattle.parts.specs.Format.{bit_of, bits_of, map_byte, amount_byte};
 ghost use Rattle.parts.specs.Compact.{first_of, further_of, compact};
-ghost use Rattle.parts.specs.Overlays.{Overlays};
+ghost use Rattle.parts.specs.Overlays.{OverlaysBy, Overlays};
 
 mod pens;
 
@@ -88,10 +87,10 @@ impl Pen {
         self.at += 1;
     }
 
-    // A byte; where it does not pass its test it is refused.
-    pub fn checked(&mut self, b: u8, passes: bool, refusal: Refusal) -> Result<(), Refusal>
+    // A byte; where it does not pass its test it is refused. This holds by each numbering of refusals in which it is not 0.
+    pub fn checked<E: Copy>(&mut self, b: u8, passes: bool, refusal: E) -> Result<(), E>
         requires { self.old.at < 919 }
-        ensures { Overlays (checked passes (number refusal) b) self.old result self.new }
+        ensures { (n : E → ℕ) → 0 < n refusal → OverlaysBy n (checked passes (n refusal) b) self.old result self.new }
     {
         if !passes {
             return Err(refusal);
@@ -109,9 +108,9 @@ impl Pen {
     }
 
     // The same as `checked`, left out where it is 0.
-    pub fn unless_zero(&mut self, b: u8, passes: bool, refusal: Refusal) -> Result<(), Refusal>
+    pub fn unless_zero<E: Copy>(&mut self, b: u8, passes: bool, refusal: E) -> Result<(), E>
         requires { self.old.at < 919 }
-        ensures { Overlays (unless_zero passes (number refusal) b) self.old result self.new }
+        ensures { (n : E → ℕ) → 0 < n refusal → OverlaysBy n (unless_zero passes (n refusal) b) self.old result self.new }
     {
         if b == 0 {
             return Ok(());

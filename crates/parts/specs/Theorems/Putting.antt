@@ -10,7 +10,7 @@ use Rattle.table.specs.Refusals.{number}
 use Rattle.parts.specs.declared.pens.Pen.{Pen}
 use Rattle.parts.specs.Part.{Part, nothing, checked, unless_zero, ◌then◌, each}
 use Rattle.parts.specs.Format.{bit_of, map_byte, amount_byte, reset_bits, reset_byte}
-use Rattle.parts.specs.Overlays.{Overlays}
+use Rattle.parts.specs.Overlays.{OverlaysBy, Overlays}
 use Rattle.parts.specs.Puts.{Puts}
 
 -- Laws of parts.
@@ -53,25 +53,28 @@ some-number RouteTooLong h = omega arith
 some-number DestinationTooShort h = omega arith
 some-number NotClosed h = omega arith
 
--- One byte: refused, or put.
-module _ (passes : Bool) (b : ℕ) {pen : Pen} where
-  pub byte-refused : (e : Refusal) → passes ≡ false → Overlays (checked passes (number e) b) pen (Err e) pen
-  byte-refused e k = let some = ne_eqb (number e) 0 (some-number e) in rw k (record { fault = refl; place = rw some; array = rw some })
+-- One byte, by whichever numbering of refusals: refused, or put.
+module _ {E : Type 0} {n : E → ℕ} (passes : Bool) (b : ℕ) {pen : Pen} where
+  pub refused-by : (e : E) → passes ≡ false → 0 < n e → OverlaysBy n (checked passes (n e) b) pen (Err e) pen
+  refused-by e k h = let some = ne_eqb (n e) 0 (λ z. omega arith) in rw k (record { fault = refl; place = rw some; array = rw some })
 
   pub byte_put : {pen' : Pen} (k : ℕ) → passes ≡ true → pen.at < length pen.bytes → pen'.bytes ≡ set pen.bytes pen.at b → pen'.at ≡ pen.at + 1 →
-      Overlays (checked passes k b) pen (Ok tt) pen'
+      OverlaysBy n (checked passes k b) pen (Ok tt) pen'
   byte_put k e h bytes-are at-is =
       rw e (record { fault = refl; place = at-is; array = bytes-are ∙ rw (add-one pen.at) (set_split pen.bytes pen.at b h) })
 
+pub byte-refused : (passes : Bool) (b : ℕ) {pen : Pen} (e : Refusal) → passes ≡ false → Overlays (checked passes (number e) b) pen (Err e) pen
+byte-refused passes b e k = refused-by passes b e k (omega (arith, some-number e))
+
 -- One that is left out where it is 0: it has at most one byte.
-module _ (passes : Bool) (k b : ℕ) {pen : Pen} where
-  pub zero_left : b ≡ 0 → Overlays (unless_zero passes k b) pen (Ok tt) pen
+module _ {E : Type 0} {n : E → ℕ} (passes : Bool) (k b : ℕ) {pen : Pen} where
+  pub zero_left : b ≡ 0 → OverlaysBy n (unless_zero passes k b) pen (Ok tt) pen
   zero_left e =
       rw (eq-eqb b 0 e)
       (record { fault = refl; place = sym (add-zero pen.at); array = rw (add-zero pen.at) (sym (take-append-drop pen.at pen.bytes)) })
 
-  pub not-zero : {pen' : Pen} {r : Result (Unit {0}) Refusal} → (b ≡ 0 → ⊥) → Overlays (checked passes k b) pen r pen' →
-      Overlays (unless_zero passes k b) pen r pen'
+  pub not-zero : {pen' : Pen} {r : Result (Unit {0}) E} → (b ≡ 0 → ⊥) → OverlaysBy n (checked passes k b) pen r pen' →
+      OverlaysBy n (unless_zero passes k b) pen r pen'
   not-zero z v = rw (ne_eqb b 0 z) v
 
 pub unless-short : (passes : Bool) (k b : ℕ) → length (unless_zero passes k b).bytes ≤ 1
@@ -82,8 +85,8 @@ unless-short passes k b = go (eqb b 0)
     go false = omega arith
 
 -- A bit map.
-pub map-overlays : {limit : ℕ} {pen pen' : Pen} {r : Result (Unit {0}) Refusal} (n map : ℕ) → limit ≡ 2 ^ n →
-    Overlays (checked (ltb (map / 2 % 8) limit && ltb (map / 16 % 8) limit) 3 map) pen r pen' → Overlays (map_byte n map) pen r pen'
+pub map-overlays : {E : Type 0} {k : E → ℕ} {limit : ℕ} {pen pen' : Pen} {r : Result (Unit {0}) E} (n map : ℕ) → limit ≡ 2 ^ n →
+    OverlaysBy k (checked (ltb (map / 2 % 8) limit && ltb (map / 16 % 8) limit) 3 map) pen r pen' → OverlaysBy k (map_byte n map) pen r pen'
 map-overlays n map e v = rw (← e) v
 
 -- What was put by a function that writes a part of at most one byte where there is room for one.

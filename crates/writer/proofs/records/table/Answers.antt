@@ -1,4 +1,6 @@
 -- `writer::records::table` meets its contract. Assumes nothing.
+use Prim.Native.Nat.{◌+◌, ◌*◌, ◌≤◌}
+use lib.ListN.{get_or}
 use Rattle.parts.specs.Theorems.Putting.{puts_then, puts-fault, puts-wide, whatever}
 use Rattle.writer.proofs.Said.{table-said, counts}
 use native.Mathlib.Omega.{arith}
@@ -22,11 +24,13 @@ mode_records-requires c =
 
 pub returns-in_err-mode_records : goal.returns-in_err-mode_records
 returns-in_err-mode_records c =
-    let r = counts c.args.form.now c.in_ok-header.ensures.fault in
-    rw (table-said c.args.form.now)
+    let form = c.args.form.now in
+    let r = counts form c.in_ok-header.ensures.fault in
+    let fits : 4 + (1 * get_or form 1 0 + 0) ≤ 919 = omega (arith, r) in
+    rw (table-said form)
     (puts-wide (puts_then c.in_ok-header.ensures
     (puts_then {b = 0} c.in_ok-ceilings.ensures (puts-fault _ c.in_err-mode_records.ensures c.from_residual-in_err-mode_records.ensures.1)))
-    (whatever _ (fits r)))
+    (whatever _ fits))
 
 pub move_records-requires : goal.move_records-requires
 move_records-requires c =
@@ -35,8 +39,10 @@ move_records-requires c =
 
 pub returns : goal.returns
 returns c =
-    let r = counts c.args.form.now c.in_ok-header.ensures.fault in
-    rw (table-said c.args.form.now)
+    let form = c.args.form.now in
+    let r = counts form c.in_ok-header.ensures.fault in
+    let fits : 4 + (1 * get_or form 1 0 + (9 * get_or form 0 0 + 12 * get_or form 2 0)) ≤ 919 = omega (arith, r) in
+    rw (table-said form)
     (puts-wide (puts_then c.in_ok-header.ensures
     (puts_then c.in_ok-ceilings.ensures (puts_then c.in_ok-mode_records.ensures c.move_records.ensures)))
-    (whatever _ (fits r)))
+    (whatever _ fits))

@@ -1,0 +1,8 @@
+-- `parts::pens::Pen::map_byte` meets its contract. Assumes nothing.
+use Rattle.std.proofs.Common.{rules}
+use Rattle.table.specs.Refusals.{number}
+use native.Mathlib.Omega.{arith}
+use Rattle.parts.proofs.pens.Pen.map_byte.Goals as goal
+
+pub returns : goal.returns
+returns c = let byte = c.checked.ensures number (omega arith) in search rules

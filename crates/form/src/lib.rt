@@ -36,9 +36,12 @@ pub const MOVE_RESETS: usize = 16;
 pub fn fill(bytes: &[u8], form: &mut [u8; FORM]) -> Result<(), Refusal>
     ensures { outcome (told result) form.new ≡ filled bytes.now form.old }
 {
-    let mut held = [0; SIZE];
-    reader::read(bytes, &mut held)?;
-    records::fill_from(&Table { bytes: held }, form);
+    let table = {
+        let mut held = [0; SIZE];
+        reader::read(bytes, &mut held)?;
+        Table { bytes: held }
+    };
+    records::fill_from(&table, form);
     Ok(())
 }
 

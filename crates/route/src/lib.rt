@@ -31,9 +31,12 @@ pub fn plan(bytes: &[u8], words: &mut [u32], route: &mut [u8]) -> Result<Option<
         ≡ planned bytes.now words.old route.old }
     ensures demand { KeepsDemand bytes.now (length words.old) route.new (told result) }
 {
-    let mut held = [0; SIZE];
-    reader::read(bytes, &mut held)?;
-    plan_table(words, route, &Table { bytes: held })
+    let table = {
+        let mut held = [0; SIZE];
+        reader::read(bytes, &mut held)?;
+        Table { bytes: held }
+    };
+    plan_table(words, route, &table)
 }
 
 // Plans a table that was read.

@@ -25,9 +25,12 @@ pub fn timetable(bytes: &[u8], words: &mut [u32], route: &mut [u8]) -> Result<Op
         ≡ timetabled bytes.now words.old route.old }
     ensures promise { KeepsTimetable bytes.now words.old route.new (told_timetable result) }
 {
-    let mut held = [0; SIZE];
-    reader::read(bytes, &mut held)?;
-    timetable_of(words, route, &Table { bytes: held })
+    let table = {
+        let mut held = [0; SIZE];
+        reader::read(bytes, &mut held)?;
+        Table { bytes: held }
+    };
+    timetable_of(words, route, &table)
 }
 
 // That of a table that was read. 12 comes "directly after 7".

@@ -14,8 +14,8 @@ returns-in_err-read c =
     rw (passed.1, passed.2)
     (filled-refused bytes c.args.form.now (number c.in_err-read.field-0.0) (rejected-read bytes _ _ c.in_err-read.ensures _ refl))
 
-pub invariant_of-fill_from : goal.invariant_of-fill_from
-invariant_of-fill_from c =
+pub invariant_of-table : goal.invariant_of-table
+invariant_of-table c =
     record { is_table = accepted-table c.args.bytes.now c.read.new.table _ (λ i. omega (arith, c.type_inv.bytes i)) c.in_ok-read.ensures refl }
 
 pub returns : goal.returns

@@ -16,8 +16,8 @@ returns-in_err-read c =
     let e = timetabled-refused bytes ws rs (number c.in_err-read.field-0.0) (rejected-read bytes _ _ c.in_err-read.ensures _ refl) in
     rw (passed.1, passed.2) (record { outcome = e; promise = outcome-keeps bytes ws rs e })
 
-pub invariant_of-timetable_of : goal.invariant_of-timetable_of
-invariant_of-timetable_of c =
+pub invariant_of-table : goal.invariant_of-table
+invariant_of-table c =
     record { is_table = accepted-table c.args.bytes.now c.read.new.table _ (λ i. omega (arith, c.type_inv.bytes i)) c.in_ok-read.ensures refl }
 
 pub returns : goal.returns

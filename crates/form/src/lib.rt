@@ -36,11 +36,9 @@ pub const MOVE_RESETS: usize = 16;
 pub fn fill(bytes: &[u8], form: &mut [u8; FORM]) -> Result<(), Refusal>
     ensures { outcome (told result) form.new ≡ filled bytes.now form.old }
 {
-    let table = {
-        let mut held = [0; SIZE];
-        reader::read(bytes, &mut held)?;
-        Table { bytes: held }
-    };
+    let mut held = [0; SIZE];
+    reader::read(bytes, &mut held)?;
+    let table = Table { bytes: held };
     records::fill_from(&table, form);
     Ok(())
 }

@@ -31,11 +31,9 @@ pub fn plan(bytes: &[u8], words: &mut [u32], route: &mut [u8]) -> Result<Option<
         ≡ planned bytes.now words.old route.old }
     ensures demand { KeepsDemand bytes.now (length words.old) route.new (told result) }
 {
-    let table = {
-        let mut held = [0; SIZE];
-        reader::read(bytes, &mut held)?;
-        Table { bytes: held }
-    };
+    let mut held = [0; SIZE];
+    reader::read(bytes, &mut held)?;
+    let table = Table { bytes: held };
     plan_table(words, route, &table)
 }
 
@@ -59,7 +57,8 @@ pub fn lend(bytes: &[u8]) -> Result<Memory, Refusal>
 {
     let mut held = [0; SIZE];
     reader::read(bytes, &mut held)?;
-    memory_of(&Table { bytes: held })
+    let table = Table { bytes: held };
+    memory_of(&table)
 }
 
 // How much to lend for a table that was read.

@@ -25,11 +25,9 @@ pub fn timetable(bytes: &[u8], words: &mut [u32], route: &mut [u8]) -> Result<Op
         ≡ timetabled bytes.now words.old route.old }
     ensures promise { KeepsTimetable bytes.now words.old route.new (told_timetable result) }
 {
-    let table = {
-        let mut held = [0; SIZE];
-        reader::read(bytes, &mut held)?;
-        Table { bytes: held }
-    };
+    let mut held = [0; SIZE];
+    reader::read(bytes, &mut held)?;
+    let table = Table { bytes: held };
     timetable_of(words, route, &table)
 }
 

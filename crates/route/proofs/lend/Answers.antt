@@ -14,8 +14,8 @@ returns-in_err-read c =
     let e = needed-refused bytes (number c.in_err-read.field-0.0) (rejected-read bytes _ _ c.in_err-read.ensures _ refl) in
     rw (passed.1, passed.2) (record { needs = e; promise = needs-enough bytes _ e })
 
-pub invariant_of-memory_of : goal.invariant_of-memory_of
-invariant_of-memory_of c =
+pub invariant_of-table : goal.invariant_of-table
+invariant_of-table c =
     record { is_table = accepted-table c.args.bytes.now c.read.new.table _ (λ i. omega (arith, c.type_inv.bytes i)) c.in_ok-read.ensures refl }
 
 pub returns : goal.returns

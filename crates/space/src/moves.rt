@@ -19,9 +19,9 @@ pub fn next_move(
 {
     let mut next = from;
     'moves: while let Some(e) = next {
-        next = rules::after(rules, e);
         for timer in 0..Region::MOST_TIMERS {
             if !rules::inside(rules, rules::GUARDS + e, timer, halves[timer]) {
+                next = rules::after(rules, e);
                 continue 'moves;
             }
         }

@@ -4,23 +4,24 @@
 use mathlib.Core.Path.{◌≡◌}
 use mathlib.Core.List.{List}
 use Prim.Native.Nat.{ℕ, ◌+◌}
+use native.Mathlib.Omega.{arith}
 use Rattle.rules.specs.Rules.{as_move, after_of}
 use Rattle.rules.specs.Laws.Moves.{some-move}
 use Rattle.space.specs.Moves.{NextFrom}
 use Rattle.space.proofs.OpenMoves.{Passing, passing-more}
 use Rattle.space.proofs.TimerTests.{outside}
-use Rattle.space.proofs.moves.next_move.Goals.{Then-not-inside}
+use Rattle.space.proofs.moves.next_move.Goals.{After-after-next}
 use Rattle.space.proofs.moves.next_move.Goals as goal
 
 -- Where a timer is outside, the move in hand is passed over, like those before it.
 passed :
-    (c : Then-not-inside) → (t : List ℕ) (byte : ℕ) → c.args.from ≡ as_move byte → NextFrom t c.args.rules.now byte
+    (c : After-after-next) → (t : List ℕ) (byte : ℕ) → c.args.from ≡ as_move byte → NextFrom t c.args.rules.now byte
     → Passing t c.args.rules.now c.args.halves byte (after_of c.args.rules.now c.in-Some.e)
 passed c t byte is r =
     let at = c.moves.invariant.passing t byte is r in
     let here : Passing t c.args.rules.now c.args.halves byte c.in-Some.e = rw (some-move at.1 at.2.few c.in-Some.is).0 at at.2 in
     let shut =
-        outside c.args.rules.now c.args.halves (16 + c.in-Some.e) c.loop-timer.timer _ c.inside.ensures c.if-not-inside.true c.loop-timer-test.true in
+        outside c.args.rules.now c.args.halves (16 + c.in-Some.e) c.loop-timer.timer _ c.inside.ensures c.if-not-inside.true (omega (arith, c.loop-timer-test.true)) in
     passing-more t _ _ _ r.is-rules _ here (c.moves.invariant.few _ c.in-Some.is) shut
 
 pub moves-preserved : goal.moves-preserved

@@ -20,8 +20,8 @@ passed :
 passed c t byte is r =
     let at = c.moves.invariant.passing t byte is r in
     let here : Passing t c.args.rules.now c.args.halves byte c.in-Some.e = rw (some-move at.1 at.2.few c.in-Some.is).0 at at.2 in
-    let shut =
-        outside c.args.rules.now c.args.halves (16 + c.in-Some.e) c.loop-timer.timer _ c.inside.ensures c.if-not-inside.true (omega (arith, c.loop-timer-test.true)) in
+    let shut = outside c.args.rules.now c.args.halves (16 + c.in-Some.e) c.loop-timer.timer _ c.inside.ensures c.if-not-inside.true
+    (omega (arith, c.loop-timer-test.true)) in
     passing-more t _ _ _ r.is-rules _ here (c.moves.invariant.few _ c.in-Some.is) shut
 
 pub moves-preserved : goal.moves-preserved

@@ -146,10 +146,10 @@ pub puts-wide : {a b : ℕ} {r : Result (Unit {0}) Refusal} {p : Part} {pen pen'
 puts-wide {r = Ok u} v h = record { fault = v.fault; few = omega (arith, v.few); put = v.put }
 puts-wide {r = Err e} v h = record { fault = v.fault; few = tt; put = tt }
 
--- What holds whatever comes holds of what was put.
-pub whatever : {P : Type 0} (r : Result (Unit {0}) Refusal) → P → OnOk r P
-whatever (Ok u) h = h
-whatever (Err e) h = tt
+-- What holds in any case holds where something was put.
+pub holds-on-ok : {P : Type 0} (r : Result (Unit {0}) Refusal) → P → OnOk r P
+holds-on-ok (Ok u) h = h
+holds-on-ok (Err e) h = tt
 
 -- The reset byte: refused, or put.
 pub limit-small : {n limit : ℕ} → n ≤ 3 → limit ≡ 2 ^ n → limit ≤ 8

@@ -1,7 +1,7 @@
 -- `writer::records::table` meets its contract. Assumes nothing.
 use Prim.Native.Nat.{◌+◌, ◌*◌, ◌≤◌}
 use lib.ListN.{get_or}
-use Rattle.parts.specs.Theorems.Putting.{puts_then, puts-fault, puts-wide, whatever}
+use Rattle.parts.specs.Theorems.Putting.{puts_then, puts-fault, puts-wide, holds-on-ok}
 use Rattle.writer.proofs.Said.{table-said, counts}
 use native.Mathlib.Omega.{arith}
 use Rattle.writer.proofs.records.table.Goals as goal
@@ -30,7 +30,7 @@ returns-in_err-mode_records c =
     rw (table-said form)
     (puts-wide (puts_then c.in_ok-header.ensures
     (puts_then {b = 0} c.in_ok-ceilings.ensures (puts-fault _ c.in_err-mode_records.ensures c.from_residual-in_err-mode_records.ensures.1)))
-    (whatever _ fits))
+    (holds-on-ok _ fits))
 
 pub move_records-requires : goal.move_records-requires
 move_records-requires c =
@@ -45,4 +45,4 @@ returns c =
     rw (table-said form)
     (puts-wide (puts_then c.in_ok-header.ensures
     (puts_then c.in_ok-ceilings.ensures (puts_then c.in_ok-mode_records.ensures c.move_records.ensures)))
-    (whatever _ fits))
+    (holds-on-ok _ fits))
